@@ -1,0 +1,2 @@
+-- Laws of the checksum's definitions.
+pub mod Registers

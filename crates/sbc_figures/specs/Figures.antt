@@ -1,0 +1,87 @@
+-- The figures that document 01 marks M ("Checked figures"), as one table, proved of the definitions by one statement. A row has what the
+-- definitions give and what the document states. A set of parameters shows as its fields, a refusal as its number.
+use Prim.Native.Nat.{ℕ}
+use mathlib.Core.Path.{_≡_, refl}
+use mathlib.Core.List.{List, [], _∷_, _++_, map}
+use lib.ListN.{take}
+use lib.IntN.{ℤ, pos}
+use Rattle.laws.specs.Answers.{Told, gives, refuses}
+use Rattle.laws.specs.Lists.{allOf, indexOf, listed}
+use Rattle.laws.specs.Bits.{odd, bitsOf}
+use Rattle.crc8.specs.Checksum.{crcStep, crcBits}
+use Rattle.sbc_parameters.specs.Parameters.{highQuality, msbc, sampleRates, blockCounts, channelModes, allocations, subbandCounts, modeNumber, allocationNumber, maximumBitpool, isMsbc, msbcTests, fieldTests, accepted, validate}
+use Rattle.sbc_parameters.specs.Sizes.{joinCount, blockBits, audioBits, frameLength, samplesPerChannel, frameSamples}
+use Rattle.sbc_parameters.specs.Header.{fromSettings, parse}
+use Rattle.sbc_parameters.specs.Seek.{seekFrame, seekOffset, seekSkip}
+use Rattle.sbc_parameters.specs.declared.SbcParameters.{SbcParameters}
+use Rattle.sbc_parameters.specs.declared.SbcChannelMode.the-variants.{Mono, DualChannel}
+use Rattle.sbc_parameters.specs.declared.SbcAllocation.the-variants.{Loudness}
+
+pub record Figure : Type 0 where
+  pub given : List ℤ
+  pub stated : List ℤ
+
+-- a row of natural numbers
+abbrev pub numbers : List ℕ → List ℕ → Figure
+numbers given stated = record { given = map pos given; stated = map pos stated }
+
+unfoldable pub shownSet : Told SbcParameters → List ℕ
+shownSet (gives p) = p .«sample_rate» ∷ modeNumber (p .«channel_mode») ∷ allocationNumber (p .allocation) ∷ p .blocks ∷ p .subbands ∷ p .bitpool ∷ []
+shownSet (refuses n) = n ∷ []
+
+unfoldable pub shownValid : Told Unit → List ℕ
+shownValid (gives v) = []
+shownValid (refuses n) = n ∷ []
+
+-- ---- the sets that the figures name beside HIGH_QUALITY and mSBC
+
+-- mono, 4 blocks, 4 subbands, bitpool 2
+unfoldable pub leastSet : SbcParameters
+leastSet = record { «sample_rate» = 16000; «channel_mode» = Mono; allocation = Loudness; blocks = 4; subbands = 4; bitpool = 2 }
+
+-- dual channel, 16 blocks, 8 subbands
+unfoldable pub dualSet : ℕ → SbcParameters
+dualSet bitpool = record { «sample_rate» = 48000; «channel_mode» = DualChannel; allocation = Loudness; blocks = 16; subbands = 8; bitpool = bitpool }
+
+-- ---- the rows, in the document's order
+
+unfoldable pub sizes : List Figure
+sizes =
+    numbers (frameLength highQuality ∷ frameSamples highQuality ∷ []) (119 ∷ 256 ∷ [])
+    ∷ numbers (frameLength msbc ∷ frameSamples msbc ∷ []) (57 ∷ 120 ∷ [])
+    ∷ numbers (frameLength leastSet ∷ []) (7 ∷ [])
+    ∷ numbers (frameLength (dualSet 128) ∷ []) (524 ∷ [])
+    ∷ numbers (shownValid (validate (dualSet 128))) []
+    ∷ numbers (shownValid (validate (dualSet 129))) (3 ∷ [])
+    ∷ []
+
+unfoldable pub headers : List Figure
+headers =
+    numbers (shownSet (parse (0x9C ∷ 0xBD ∷ 0x35 ∷ []))) (shownSet (gives highQuality))
+    ∷ numbers (shownSet (parse (0xAD ∷ []))) (1 ∷ [])
+    ∷ []
+
+-- from 00: 8 bits of 01, 8 bits of 80, 4 bits of 1F
+unfoldable pub checksums : List Figure
+checksums =
+    numbers (crcBits 0 (bitsOf 8 0x01) ∷ []) (0x1D ∷ [])
+    ∷ numbers (crcBits 0 (bitsOf 8 0x80) ∷ []) (0x26 ∷ [])
+    ∷ numbers (crcBits 0 (take 4 (bitsOf 8 0x1F)) ∷ []) (0x1D ∷ [])
+    ∷ []
+
+-- mSBC, position 1000: byte offset and skip
+unfoldable pub seeks : List Figure
+seeks = numbers (seekOffset msbc 1000 ∷ seekSkip msbc 1000 ∷ []) (399 ∷ 160 ∷ []) ∷ []
+
+abbrev pub table : List Figure
+table = sizes ++ (headers ++ (checksums ++ seeks))
+
+-- ---- the statement
+
+pub figures-hold : map (λ row. row .given) table ≡ map (λ row. row .stated) table
+unfolding sizes headers checksums seeks leastSet dualSet shownSet shownValid
+    allOf indexOf listed odd bitsOf crcStep crcBits
+    highQuality msbc sampleRates blockCounts channelModes allocations subbandCounts maximumBitpool isMsbc msbcTests fieldTests accepted validate
+    joinCount blockBits audioBits frameLength samplesPerChannel frameSamples
+    fromSettings parse seekFrame seekOffset seekSkip
+figures-hold = refl

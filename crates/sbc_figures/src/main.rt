@@ -1,0 +1,161 @@
+// Runs the figures of document 01 on the compiled code and writes what it gives, a line each; the file stdout has what must come.
+// A set of parameters shows as rate, mode, allocation, blocks, subbands and bitpool; a refusal as its number.
+use bits::Bits;
+use bits::Room;
+use libc::STDOUT_FILENO;
+use sbc_parameters::Error;
+use sbc_parameters::Parsed;
+use sbc_parameters::SbcAllocation;
+use sbc_parameters::SbcChannelMode;
+use sbc_parameters::SbcParameters;
+use sbc_parameters::Validated;
+
+fn text(bytes: &[u8]) {
+    io::write_all(STDOUT_FILENO, bytes);
+}
+
+fn number(n: u64) {
+    text(b" ");
+    io::print_decimal(STDOUT_FILENO, n);
+}
+
+fn byte(n: u8) {
+    number(n as u64);
+}
+
+fn end_line() {
+    text(b"\n");
+}
+
+fn parameters(p: SbcParameters) {
+    let mode = p.channel_mode;
+    let allocation = p.allocation;
+    number(p.sample_rate as u64);
+    byte(mode.number());
+    byte(allocation.number());
+    byte(p.blocks);
+    byte(p.subbands);
+    byte(p.bitpool);
+}
+
+fn refusal(error: Error) {
+    text(b" refused");
+    byte(error.number());
+}
+
+// A frame's bytes and samples, and whether the set is accepted.
+fn sizes(label: &[u8], p: SbcParameters) {
+    text(label);
+    number(p.frame_length() as u64);
+    number(p.frame_samples() as u64);
+    match p.validate() {
+        Validated::Accepted => text(b" accepted"),
+        Validated::Refused(error) => refusal(error),
+    }
+    end_line();
+}
+
+fn parse(label: &[u8], bytes: &[u8]) {
+    text(label);
+    match SbcParameters::parse(bytes) {
+        Parsed::Parameters(p) => parameters(p),
+        Parsed::Refused(error) => refusal(error),
+    }
+    end_line();
+}
+
+// The header of a set, and the bits that the checksum covers behind it.
+fn header(label: &[u8], p: SbcParameters) {
+    text(label);
+    let bytes = p.header();
+    byte(bytes[0]);
+    byte(bytes[1]);
+    byte(bytes[2]);
+    number(p.side_bits() as u64);
+    end_line();
+}
+
+fn checksum(label: &[u8], value: u8) {
+    text(label);
+    byte(value);
+    end_line();
+}
+
+// `count` bits of A5 C3 0F F0 5A from bit `position` on, and the position after them.
+fn read(label: &[u8], position: usize, count: u32) {
+    text(label);
+    let found = bits::read_at(&[0xA5, 0xC3, 0x0F, 0xF0, 0x5A], position, count);
+    let bits = found.bits;
+    match bits {
+        Bits::Value(value) => number(value as u64),
+        Bits::Incomplete => text(b" Incomplete"),
+    }
+    number(found.position as u64);
+    end_line();
+}
+
+// What three bytes of FF are after `count` low bits of `value` were written from bit `position` on.
+fn write(label: &[u8], position: usize, value: u32, count: u32) {
+    text(label);
+    let mut bytes = [0xFFu8; 3];
+    let written = bits::write_at(&mut bytes, position, value, count);
+    let room = written.room;
+    match room {
+        Room::Enough => text(b" written"),
+        Room::BufferTooSmall => text(b" BufferTooSmall"),
+    }
+    number(written.position as u64);
+    byte(bytes[0]);
+    byte(bytes[1]);
+    byte(bytes[2]);
+    end_line();
+}
+
+fn with_bitpool(
+    channel_mode: SbcChannelMode,
+    blocks: u8,
+    subbands: u8,
+    bitpool: u8,
+) -> SbcParameters {
+    SbcParameters {
+        sample_rate: 16_000,
+        channel_mode,
+        allocation: SbcAllocation::Snr,
+        blocks,
+        subbands,
+        bitpool,
+    }
+}
+
+fn main() {
+    sizes(b"HIGH_QUALITY", SbcParameters::HIGH_QUALITY);
+    sizes(b"mSBC", SbcParameters::MSBC);
+    sizes(b"least", with_bitpool(SbcChannelMode::Mono, 4, 4, 2));
+    sizes(
+        b"dual 128",
+        with_bitpool(SbcChannelMode::DualChannel, 16, 8, 128),
+    );
+    sizes(
+        b"dual 129",
+        with_bitpool(SbcChannelMode::DualChannel, 16, 8, 129),
+    );
+    sizes(b"mono 64", with_bitpool(SbcChannelMode::Mono, 4, 4, 64));
+    sizes(b"mono 65", with_bitpool(SbcChannelMode::Mono, 4, 4, 65));
+    parse(b"9C BD 35", &[0x9C, 0xBD, 0x35]);
+    parse(b"AD", &[0xAD]);
+    parse(b"AD FF FF", &[0xAD, 0xFF, 0xFF]);
+    parse(b"9C 02 41", &[0x9C, 0x02, 0x41]);
+    parse(b"9D BD 35", &[0x9D, 0xBD, 0x35]);
+    header(b"HIGH_QUALITY header", SbcParameters::HIGH_QUALITY);
+    header(b"mSBC header", SbcParameters::MSBC);
+    checksum(b"8 bits of 01", crc8::update_bits(0, 0x01, 8));
+    checksum(b"8 bits of 80", crc8::update_bits(0, 0x80, 8));
+    checksum(b"4 bits of 1F", crc8::update_bits(0, 0x1F, 4));
+    read(b"8 bits at 4", 4, 8);
+    read(b"32 bits at 5", 5, 32);
+    read(b"no bits at 99", 99, 0);
+    read(b"1 bit at 40", 40, 1);
+    read(b"33 bits at 0", 0, 33);
+    write(b"10 bits at 6", 6, 0x155, 10);
+    write(b"1 bit at 24", 24, 0, 1);
+}

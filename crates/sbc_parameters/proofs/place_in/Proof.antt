@@ -1,0 +1,23 @@
+-- `place_in` meets its contract.
+-- Assumes nothing.
+use mathlib.Core.Path.{sym}
+use borrow.Author.Tests.{lt-ltb, le-ltb}
+use Rattle.laws.specs.Lists.{listed}
+use Rattle.sbc_parameters.specs.Header.{placeIn}
+use borrow.Author.Needs.{needs}
+use Rattle.sbc_parameters.proofs.place_in.Statement.{statement}
+use Rattle.sbc_parameters.proofs.place_in.Tie as tie
+
+index-of-requires : tie.Need-index-of-requires
+index-of-requires c κs = search needs
+
+returns : tie.Need-returns
+unfolding listed placeIn
+returns c = rw (← c .before .index-of .ensures, lt-ltb _ _ (c .if1 .taken))
+
+returns-2 : tie.Need-returns-2
+unfolding listed placeIn
+returns-2 c = rw (← c .before .index-of .ensures, le-ltb _ _ (c .if1 .left))
+
+pub place-in-spec : {M : Type 1} → statement M
+place-in-spec = tie.close (tie.spec index-of-requires returns returns-2)

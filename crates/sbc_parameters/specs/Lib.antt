@@ -1,0 +1,5 @@
+pub mod Errors
+pub mod Parameters
+pub mod Sizes
+pub mod Header
+pub mod Seek
