@@ -1,5 +1,6 @@
--- Laws of bits in bytes: a part of a list replaced, a field read through a window of bytes, a field written byte by byte, and read back.
+-- Laws of bits in bytes: a field read through a window of bytes, written byte by byte, read back; the cases of both calls, and their answers.
 pub mod Windows
 pub mod Bytewise
 pub mod RoundTrip
 pub mod Ends
+pub mod Answers

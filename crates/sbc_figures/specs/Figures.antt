@@ -1,10 +1,10 @@
 -- The figures that document 01 marks M ("Checked figures"), as one table, proved of the definitions by one statement. A row has what the
 -- definitions give and what the document states. A set of parameters shows as its fields, a refusal as its number.
-use Prim.Native.Nat.{ℕ}
+use Prim.Native.Nat.{ℕ, _^_}
 use mathlib.Core.Path.{_≡_, refl}
 use mathlib.Core.List.{List, [], _∷_, _++_, map}
 use lib.ListN.{take}
-use lib.IntN.{ℤ, pos}
+use lib.IntN.{ℤ, pos, negℤ}
 use Rattle.laws.specs.Answers.{Told, gives, refuses}
 use Rattle.laws.specs.Lists.{allOf, indexOf, listed}
 use Rattle.laws.specs.Bits.{odd, bitsOf}
@@ -13,6 +13,7 @@ use Rattle.sbc_parameters.specs.Parameters.{highQuality, msbc, sampleRates, blo
 use Rattle.sbc_parameters.specs.Sizes.{joinCount, blockBits, audioBits, frameLength, samplesPerChannel, frameSamples}
 use Rattle.sbc_parameters.specs.Header.{fromSettings, parse}
 use Rattle.sbc_parameters.specs.Seek.{seekFrame, seekOffset, seekSkip}
+use Rattle.sbc_quantizer.specs.Quantizing.{firstFrom, scaleFactor, quantize, reconstruct}
 use Rattle.sbc_parameters.specs.declared.SbcParameters.{SbcParameters}
 use Rattle.sbc_parameters.specs.declared.SbcChannelMode.the-variants.{Mono, DualChannel}
 use Rattle.sbc_parameters.specs.declared.SbcAllocation.the-variants.{Loudness}
@@ -69,19 +70,40 @@ checksums =
     ∷ numbers (crcBits 0 (take 4 (bitsOf 8 0x1F)) ∷ []) (0x1D ∷ [])
     ∷ []
 
+-- f = 0, b = 2: the reconstructions of 0 to 3
+unfoldable pub reconstructions : List Figure
+reconstructions =
+    record {
+      given = reconstruct 0 0 2 ∷ reconstruct 1 0 2 ∷ reconstruct 2 0 2 ∷ reconstruct 3 0 2 ∷ [];
+      stated = negℤ (pos 1365) ∷ pos 0 ∷ pos 1365 ∷ pos 2730 ∷ [];
+    }
+    ∷ []
+
+-- f = 0, b = 2: samples -8192, 0, 8191, 8192
+unfoldable pub quantizings : List Figure
+quantizings =
+    numbers (quantize (negℤ (pos 8192)) 0 2 ∷ quantize (pos 0) 0 2 ∷ quantize (pos 8191) 0 2 ∷ quantize (pos 8192) 0 2 ∷ [])
+    (0 ∷ 1 ∷ 2 ∷ 3 ∷ [])
+    ∷ []
+
+-- the factors of the maxima 8191, 8192, 2^27
+unfoldable pub factors : List Figure
+factors = numbers (scaleFactor 8191 ∷ scaleFactor 8192 ∷ scaleFactor (2 ^ 27) ∷ []) (0 ∷ 1 ∷ 15 ∷ []) ∷ []
+
 -- mSBC, position 1000: byte offset and skip
 unfoldable pub seeks : List Figure
 seeks = numbers (seekOffset msbc 1000 ∷ seekSkip msbc 1000 ∷ []) (399 ∷ 160 ∷ []) ∷ []
 
 abbrev pub table : List Figure
-table = sizes ++ (headers ++ (checksums ++ seeks))
+table = sizes ++ (headers ++ (checksums ++ (reconstructions ++ (quantizings ++ (factors ++ seeks)))))
 
 -- ---- the statement
 
 pub figures-hold : map (λ row. row .given) table ≡ map (λ row. row .stated) table
-unfolding sizes headers checksums seeks leastSet dualSet shownSet shownValid
+unfolding sizes headers checksums reconstructions quantizings factors seeks leastSet dualSet shownSet shownValid
     allOf indexOf listed odd bitsOf crcStep crcBits
     highQuality msbc sampleRates blockCounts channelModes allocations subbandCounts maximumBitpool isMsbc msbcTests fieldTests accepted validate
     joinCount blockBits audioBits frameLength samplesPerChannel frameSamples
     fromSettings parse seekFrame seekOffset seekSkip
+    firstFrom scaleFactor quantize reconstruct
 figures-hold = refl

@@ -9,6 +9,9 @@ use sbc_parameters::SbcAllocation;
 use sbc_parameters::SbcChannelMode;
 use sbc_parameters::SbcParameters;
 use sbc_parameters::Validated;
+use sbc_quantizer::quantize;
+use sbc_quantizer::reconstruct;
+use sbc_quantizer::scale_factor;
 
 fn text(bytes: &[u8]) {
     io::write_all(STDOUT_FILENO, bytes);
@@ -111,6 +114,36 @@ fn write(label: &[u8], position: usize, value: u32, count: u32) {
     end_line();
 }
 
+// Whether the code gives what the label says.
+fn holds(label: &[u8], ok: bool) {
+    text(label);
+    if ok {
+        text(b" holds");
+    } else {
+        text(b" fails");
+    }
+    end_line();
+}
+
+fn quantizing() {
+    holds(b"f 0 b 2 q 0: -1365", reconstruct(0, 0, 2) == -1365);
+    holds(b"f 0 b 2 q 1: 0", reconstruct(1, 0, 2) == 0);
+    holds(b"f 0 b 2 q 2: 1365", reconstruct(2, 0, 2) == 1365);
+    holds(b"f 0 b 2 q 3: 2730", reconstruct(3, 0, 2) == 2730);
+    holds(b"f 15 b 1 q 0: 0", reconstruct(0, 15, 1) == 0);
+    holds(
+        b"f 15 b 1 q 1: 134217728",
+        reconstruct(1, 15, 1) == 134217728,
+    );
+    holds(b"f 0 b 2 sample -8192: 0", quantize(-8192, 0, 2) == 0);
+    holds(b"f 0 b 2 sample 0: 1", quantize(0, 0, 2) == 1);
+    holds(b"f 0 b 2 sample 8191: 2", quantize(8191, 0, 2) == 2);
+    holds(b"f 0 b 2 sample 8192: 3", quantize(8192, 0, 2) == 3);
+    holds(b"maximum 8191: 0", scale_factor(8191) == 0);
+    holds(b"maximum 8192: 1", scale_factor(8192) == 1);
+    holds(b"maximum 2^27: 15", scale_factor(134217728) == 15);
+}
+
 fn with_bitpool(
     channel_mode: SbcChannelMode,
     blocks: u8,
@@ -158,4 +191,5 @@ fn main() {
     read(b"33 bits at 0", 0, 33);
     write(b"10 bits at 6", 6, 0x155, 10);
     write(b"1 bit at 24", 24, 0, 1);
+    quantizing();
 }

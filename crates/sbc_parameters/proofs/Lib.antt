@@ -3,3 +3,4 @@ pub mod Numbers
 pub mod Accepted
 pub mod Parsing
 pub mod Seeking
+pub mod Answers

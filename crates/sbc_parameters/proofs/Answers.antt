@@ -1,0 +1,50 @@
+-- What is told of an answer determines the answer: a contract on what is told fixes what is returned.
+-- Assumes nothing.
+use Prim.Native.Nat.{ℕ, _-_}
+use mathlib.Core.Path.{_≡_, refl, sym, ap, _∙_}
+use mathlib.Core.List.{List, [], _∷_}
+use native.Mathlib.Omega.{arith}
+use lib.ListN.{getD}
+use Rattle.sbc_parameters.specs.Errors.{errorNumber}
+use Rattle.sbc_parameters.specs.Parameters.{toldValidated}
+use Rattle.sbc_parameters.specs.Header.{toldParsed}
+use Rattle.sbc_parameters.specs.declared.SbcParameters.{SbcParameters}
+use Rattle.sbc_parameters.specs.declared.Error.{Error}
+use Rattle.sbc_parameters.specs.declared.Error.the-variants.{Incomplete, InvalidHeader, InvalidParameter, InvalidData, BufferTooSmall}
+use Rattle.sbc_parameters.specs.declared.Parsed.{Parsed}
+use Rattle.sbc_parameters.specs.declared.Parsed.the-variants as parsed
+use Rattle.sbc_parameters.specs.declared.Validated.{Validated}
+use Rattle.sbc_parameters.specs.declared.Validated.the-variants as validated
+
+errors : List Error
+errors = Incomplete ∷ InvalidHeader ∷ InvalidParameter ∷ InvalidData ∷ BufferTooSmall ∷ []
+
+error-back : (e : Error) → getD errors (errorNumber e - 1) Incomplete ≡ e
+unfolding errors
+error-back Incomplete = refl
+error-back InvalidHeader = refl
+error-back InvalidParameter = refl
+error-back InvalidData = refl
+error-back BufferTooSmall = refl
+
+-- a refusal's number determines the refusal
+pub error-determined : (e f : Error) → errorNumber e ≡ errorNumber f → e ≡ f
+error-determined e f h = sym (error-back e) ∙ ap (λ (n : ℕ). getD errors (n - 1) Incomplete) h ∙ error-back f
+
+pub parsed-determined : (a b : Parsed) → toldParsed a ≡ toldParsed b → a ≡ b
+unfolding toldParsed
+parsed-determined (parsed.Parameters p) (parsed.Parameters q) h = let e : p ≡ q = cc in ap parsed.Parameters e
+parsed-determined (parsed.Parameters p) (parsed.Refused f) h = let z : _≡_ {A = ℕ} 0 1 = cc in absurd (omega arith)
+parsed-determined (parsed.Refused e) (parsed.Parameters q) h = let z : _≡_ {A = ℕ} 0 1 = cc in absurd (omega arith)
+parsed-determined (parsed.Refused e) (parsed.Refused f) h =
+    let n : errorNumber e ≡ errorNumber f = cc in
+    ap parsed.Refused (error-determined e f n)
+
+pub validated-determined : (a b : Validated) → toldValidated a ≡ toldValidated b → a ≡ b
+unfolding toldValidated
+validated-determined validated.Accepted validated.Accepted h = refl
+validated-determined validated.Accepted (validated.Refused f) h = let z : _≡_ {A = ℕ} 0 1 = cc in absurd (omega arith)
+validated-determined (validated.Refused e) validated.Accepted h = let z : _≡_ {A = ℕ} 0 1 = cc in absurd (omega arith)
+validated-determined (validated.Refused e) (validated.Refused f) h =
+    let n : errorNumber e ≡ errorNumber f = cc in
+    ap validated.Refused (error-determined e f n)

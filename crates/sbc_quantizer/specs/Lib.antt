@@ -1,0 +1,2 @@
+pub mod Quantizing
+pub mod Dequantizing

@@ -1,0 +1,89 @@
+//! The benchmark's driver: the same inputs through the oracle (rust) or the proved crates (rattle).
+//!
+//!     driver KERNEL rust|rattle N      runs the kernel N times and prints a digest of what it gave, the same for both
+use nanoaudio_sbc::exports;
+use nanoaudio_sbc::{SbcAllocation, SbcChannelMode, SbcParameters};
+
+unsafe extern "C" {
+    fn rattle_checksum(frame: *const u8, length: usize, side_bits: usize) -> u8;
+    fn rattle_allocate(rate: u32, mode: u8, allocation: u8, subbands: u8, bitpool: u8, left: *mut [u8; 8], right: *mut [u8; 8]);
+}
+
+/// Numbers that look random, the same in every run.
+struct Draw(u64);
+
+impl Draw {
+    fn next(&mut self) -> u64 {
+        self.0 ^= self.0 << 13;
+        self.0 ^= self.0 >> 7;
+        self.0 ^= self.0 << 17;
+        self.0
+    }
+}
+
+fn mix(digest: u64, value: u64) -> u64 {
+    (digest ^ value).wrapping_mul(0x9E37_79B9_7F4A_7C15).rotate_left(23)
+}
+
+const MODES: [SbcChannelMode; 4] = [SbcChannelMode::Mono, SbcChannelMode::DualChannel, SbcChannelMode::Stereo, SbcChannelMode::JointStereo];
+const RATES: [u32; 4] = [16_000, 32_000, 44_100, 48_000];
+
+fn allocate(rattle: bool, n: u64, mode: u8, subbands: u8, bitpool: u8) -> u64 {
+    let mut draw = Draw(1);
+    let mut digest = 0;
+    for _ in 0..n {
+        let rate = RATES[(draw.next() % 4) as usize];
+        let allocation = (draw.next() % 2) as u8;
+        let (a, b) = (draw.next(), draw.next());
+        let mut left = a.to_le_bytes().map(|x| x % 16);
+        let mut right = b.to_le_bytes().map(|x| x % 16);
+        if rattle {
+            unsafe { rattle_allocate(rate, mode, allocation, subbands, bitpool, &mut left, &mut right) };
+        } else {
+            let parameters = SbcParameters {
+                sample_rate: rate,
+                channel_mode: MODES[mode as usize],
+                allocation: if allocation == 0 { SbcAllocation::Loudness } else { SbcAllocation::Snr },
+                blocks: 16,
+                subbands,
+                bitpool,
+            };
+            [left, right] = exports::allocation(&parameters, &[left, right]);
+        }
+        digest = mix(mix(digest, u64::from_le_bytes(left)), u64::from_le_bytes(right));
+    }
+    digest
+}
+
+fn checksum(rattle: bool, n: u64) -> u64 {
+    let mut draw = Draw(2);
+    let mut digest = 0;
+    let mut frame = [0u8; 119];
+    for _ in 0..n {
+        for chunk in frame[..16].chunks_mut(8) {
+            chunk.copy_from_slice(&draw.next().to_le_bytes());
+        }
+        let crc = if rattle {
+            unsafe { rattle_checksum(frame.as_ptr(), frame.len(), 72) }
+        } else {
+            exports::frame_checksum(&frame, 72)
+        };
+        digest = mix(digest, crc as u64);
+    }
+    digest
+}
+
+fn main() {
+    let words: Vec<String> = std::env::args().collect();
+    let rattle = words[2] == "rattle";
+    let n: u64 = words[3].parse().unwrap();
+    let digest = match words[1].as_str() {
+        "allocate_joint_8" => allocate(rattle, n, 3, 8, 53),
+        "allocate_dual_8" => allocate(rattle, n, 1, 8, 40),
+        "allocate_mono_8" => allocate(rattle, n, 0, 8, 26),
+        "allocate_joint_4" => allocate(rattle, n, 3, 4, 30),
+        "checksum" => checksum(rattle, n),
+        other => panic!("no kernel {other}"),
+    };
+    println!("{digest:016x}");
+}
