@@ -6,6 +6,9 @@ use nanoaudio_sbc::{SbcAllocation, SbcChannelMode, SbcParameters};
 
 unsafe extern "C" {
     fn rattle_checksum(frame: *const u8, length: usize, side_bits: usize) -> u8;
+    fn rattle_quantize(sample: i32, scale_factor: u8, bits: u8) -> u32;
+    fn rattle_reconstruct(quantized: u32, scale_factor: u8, bits: u8) -> i32;
+    fn rattle_scale_factor(maximum: u32) -> u8;
     fn rattle_allocate(rate: u32, mode: u8, allocation: u8, subbands: u8, bitpool: u8, left: *mut [u8; 8], right: *mut [u8; 8]);
 }
 
@@ -73,6 +76,59 @@ fn checksum(rattle: bool, n: u64) -> u64 {
     digest
 }
 
+/// Eight samples a turn, each with a factor and a width of its own.
+fn quantize(rattle: bool, n: u64) -> u64 {
+    let mut draw = Draw(3);
+    let mut digest = 0;
+    for _ in 0..n {
+        for _ in 0..8 {
+            let a = draw.next();
+            let (factor, bits) = ((a % 16) as u8, (a >> 8) as u8 % 16 + 1);
+            let sample = ((a >> 16) as i32) >> (16 - factor as i32);
+            let value = if rattle {
+                unsafe { rattle_quantize(sample, factor, bits) }
+            } else {
+                exports::quantized(sample, factor, bits)
+            };
+            digest = mix(digest, value as u64);
+        }
+    }
+    digest
+}
+
+fn reconstruct(rattle: bool, n: u64) -> u64 {
+    let mut draw = Draw(4);
+    let mut digest = 0;
+    for _ in 0..n {
+        for _ in 0..8 {
+            let a = draw.next();
+            let (factor, bits) = ((a % 16) as u8, (a >> 8) as u8 % 16 + 1);
+            let quantized = (a >> 16) as u32 % (1 << bits);
+            let value = if rattle {
+                unsafe { rattle_reconstruct(quantized, factor, bits) }
+            } else {
+                exports::reconstructed(quantized, factor, bits)
+            };
+            digest = mix(digest, value as u64);
+        }
+    }
+    digest
+}
+
+fn scale_factor(rattle: bool, n: u64) -> u64 {
+    let mut draw = Draw(5);
+    let mut digest = 0;
+    for _ in 0..n {
+        for _ in 0..8 {
+            let a = draw.next();
+            let maximum = (a >> 33) as u32 >> (a % 20);
+            let factor = if rattle { unsafe { rattle_scale_factor(maximum) } } else { exports::factor(maximum as i32) };
+            digest = mix(digest, factor as u64);
+        }
+    }
+    digest
+}
+
 fn main() {
     let words: Vec<String> = std::env::args().collect();
     let rattle = words[2] == "rattle";
@@ -82,6 +138,9 @@ fn main() {
         "allocate_dual_8" => allocate(rattle, n, 1, 8, 40),
         "allocate_mono_8" => allocate(rattle, n, 0, 8, 26),
         "allocate_joint_4" => allocate(rattle, n, 3, 4, 30),
+        "quantize_8_values" => quantize(rattle, n),
+        "reconstruct_8_values" => reconstruct(rattle, n),
+        "scale_factor_8_values" => scale_factor(rattle, n),
         "checksum" => checksum(rattle, n),
         other => panic!("no kernel {other}"),
     };

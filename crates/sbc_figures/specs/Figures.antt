@@ -3,20 +3,23 @@
 use Prim.Native.Nat.{ℕ, _^_}
 use mathlib.Core.Path.{_≡_, refl}
 use mathlib.Core.List.{List, [], _∷_, _++_, map}
-use lib.ListN.{take}
+use lib.ListN.{getD, take}
 use lib.IntN.{ℤ, pos, negℤ}
 use Rattle.laws.specs.Answers.{Told, gives, refuses}
-use Rattle.laws.specs.Lists.{allOf, indexOf, listed}
+use Rattle.laws.specs.Lists.{collect, build, allOf, indexOf, listed}
 use Rattle.laws.specs.Bits.{odd, bitsOf}
 use Rattle.crc8.specs.Checksum.{crcStep, crcBits}
 use Rattle.sbc_parameters.specs.Parameters.{highQuality, msbc, sampleRates, blockCounts, channelModes, allocations, subbandCounts, modeNumber, allocationNumber, maximumBitpool, isMsbc, msbcTests, fieldTests, accepted, validate}
 use Rattle.sbc_parameters.specs.Sizes.{joinCount, blockBits, audioBits, frameLength, samplesPerChannel, frameSamples}
 use Rattle.sbc_parameters.specs.Header.{fromSettings, parse}
 use Rattle.sbc_parameters.specs.Seek.{seekFrame, seekOffset, seekSkip}
+use Rattle.sbc_allocation.specs.Need.{need}
+use Rattle.sbc_allocation.specs.Share.{sum, above, heights, levelPart, levelBits, descend, greatestNeed, leastNeed, levelOf, baseBits, roundGain, roundBits, lastBit, shareAt, share}
+use Rattle.sbc_allocation.specs.Allocate.{channelNeeds, allocateBy, allocate}
 use Rattle.sbc_quantizer.specs.Quantizing.{firstFrom, scaleFactor, quantize, reconstruct}
 use Rattle.sbc_parameters.specs.declared.SbcParameters.{SbcParameters}
 use Rattle.sbc_parameters.specs.declared.SbcChannelMode.the-variants.{Mono, DualChannel}
-use Rattle.sbc_parameters.specs.declared.SbcAllocation.the-variants.{Loudness}
+use Rattle.sbc_parameters.specs.declared.SbcAllocation.the-variants.{Loudness, Snr}
 
 pub record Figure : Type 0 where
   pub given : List ℤ
@@ -70,6 +73,16 @@ checksums =
     ∷ numbers (crcBits 0 (take 4 (bitsOf 8 0x1F)) ∷ []) (0x1D ∷ [])
     ∷ []
 
+-- mono, 4 subbands, SNR, bitpool 3: the bits of factors 0 0 0 0 and 0 3 3 0
+unfoldable pub shareSet : ℕ → SbcParameters
+shareSet bitpool = record { «sample_rate» = 16000; «channel_mode» = Mono; allocation = Snr; blocks = 4; subbands = 4; bitpool = bitpool }
+
+unfoldable pub shares : List Figure
+shares =
+    numbers (getD (allocate (shareSet 3) ((0 ∷ 0 ∷ 0 ∷ 0 ∷ []) ∷ [])) 0 []) (3 ∷ 0 ∷ 0 ∷ 0 ∷ [])
+    ∷ numbers (getD (allocate (shareSet 3) ((0 ∷ 3 ∷ 3 ∷ 0 ∷ []) ∷ [])) 0 []) (1 ∷ 2 ∷ 0 ∷ 0 ∷ [])
+    ∷ []
+
 -- f = 0, b = 2: the reconstructions of 0 to 3
 unfoldable pub reconstructions : List Figure
 reconstructions =
@@ -95,15 +108,17 @@ unfoldable pub seeks : List Figure
 seeks = numbers (seekOffset msbc 1000 ∷ seekSkip msbc 1000 ∷ []) (399 ∷ 160 ∷ []) ∷ []
 
 abbrev pub table : List Figure
-table = sizes ++ (headers ++ (checksums ++ (reconstructions ++ (quantizings ++ (factors ++ seeks)))))
+table = sizes ++ (headers ++ (checksums ++ (shares ++ (reconstructions ++ (quantizings ++ (factors ++ seeks))))))
 
 -- ---- the statement
 
 pub figures-hold : map (λ row. row .given) table ≡ map (λ row. row .stated) table
-unfolding sizes headers checksums reconstructions quantizings factors seeks leastSet dualSet shownSet shownValid
+unfolding sizes headers checksums shares shareSet reconstructions quantizings factors seeks leastSet dualSet shownSet shownValid
     allOf indexOf listed odd bitsOf crcStep crcBits
     highQuality msbc sampleRates blockCounts channelModes allocations subbandCounts maximumBitpool isMsbc msbcTests fieldTests accepted validate
     joinCount blockBits audioBits frameLength samplesPerChannel frameSamples
     fromSettings parse seekFrame seekOffset seekSkip
     firstFrom scaleFactor quantize reconstruct
+    build collect need sum above heights levelPart levelBits descend greatestNeed leastNeed levelOf baseBits roundGain roundBits lastBit shareAt share
+    channelNeeds allocateBy allocate
 figures-hold = refl

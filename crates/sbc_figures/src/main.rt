@@ -3,6 +3,7 @@
 use bits::Bits;
 use bits::Room;
 use libc::STDOUT_FILENO;
+use sbc_allocation::allocate;
 use sbc_parameters::Error;
 use sbc_parameters::Parsed;
 use sbc_parameters::SbcAllocation;
@@ -125,6 +126,20 @@ fn holds(label: &[u8], ok: bool) {
     end_line();
 }
 
+// The bits of the subbands of a mono set with 4 subbands and SNR.
+fn allocation(label: &[u8], bitpool: u8, factors: [u8; 8]) {
+    text(label);
+    let parameters = with_bitpool(SbcChannelMode::Mono, 4, 4, bitpool);
+    let table = allocate(parameters, [factors, [0u8; 8]]);
+    let row = table[0];
+    byte(row[0]);
+    byte(row[1]);
+    byte(row[2]);
+    byte(row[3]);
+    byte(row[4]);
+    end_line();
+}
+
 fn quantizing() {
     holds(b"f 0 b 2 q 0: -1365", reconstruct(0, 0, 2) == -1365);
     holds(b"f 0 b 2 q 1: 0", reconstruct(1, 0, 2) == 0);
@@ -191,5 +206,8 @@ fn main() {
     read(b"33 bits at 0", 0, 33);
     write(b"10 bits at 6", 6, 0x155, 10);
     write(b"1 bit at 24", 24, 0, 1);
+    allocation(b"0 0 0 0 of 3", 3, [0, 0, 0, 0, 0, 0, 0, 0]);
+    allocation(b"0 3 3 0 of 3", 3, [0, 3, 3, 0, 0, 0, 0, 0]);
+    allocation(b"0 3 3 0 of 64", 64, [0, 3, 3, 0, 0, 0, 0, 0]);
     quantizing();
 }

@@ -1,0 +1,5 @@
+pub mod Need
+pub mod Share
+pub mod Allocate
+pub mod Shares
+pub mod Raised
