@@ -8,6 +8,8 @@ unsafe extern "C" {
     fn rattle_checksum(frame: *const u8, length: usize, side_bits: usize) -> u8;
     fn rattle_quantize(sample: i32, scale_factor: u8, bits: u8) -> u32;
     fn rattle_reconstruct(quantized: u32, scale_factor: u8, bits: u8) -> i32;
+    fn rattle_synthesize(values: *mut [i32; 160], input: *const [i32; 8], output: *mut [i16; 8], newest: usize, subbands: usize);
+    fn rattle_analyze(history: *mut [i16; 80], input: *const [i16; 8], output: *mut [i32; 8], subbands: usize);
     fn rattle_scale_factor(maximum: u32) -> u8;
     fn rattle_allocate(rate: u32, mode: u8, allocation: u8, subbands: u8, bitpool: u8, left: *mut [u8; 8], right: *mut [u8; 8]);
 }
@@ -129,6 +131,50 @@ fn scale_factor(rattle: bool, n: u64) -> u64 {
     digest
 }
 
+/// One block a turn, of a ring that all blocks share.
+fn synthesize(rattle: bool, n: u64, subbands: usize) -> u64 {
+    let mut draw = Draw(6);
+    let mut digest = 0;
+    let mut ring = exports::Ring::new();
+    let mut values = [0i32; 160];
+    let mut newest = 0;
+    for _ in 0..n {
+        let (a, b) = (draw.next(), draw.next());
+        let input: [i32; 8] = std::array::from_fn(|i| ((if i < 4 { a >> (8 * i) } else { b >> (8 * i - 24) }) as i32) >> 5);
+        let mut output = [0i16; 8];
+        if rattle {
+            unsafe { rattle_synthesize(&mut values, &input, &mut output, newest, subbands) };
+            newest = (newest + 9) % 10;
+        } else {
+            ring.synthesize(&input[..subbands], &mut output[..subbands]);
+        }
+        for pair in output.chunks_exact(4) {
+            digest = mix(digest, pair.iter().fold(0, |sum, sample| sum << 16 | *sample as u16 as u64));
+        }
+    }
+    digest
+}
+
+fn analyze(rattle: bool, n: u64, subbands: usize) -> u64 {
+    let mut draw = Draw(7);
+    let mut digest = 0;
+    let mut history = [0i16; 80];
+    for _ in 0..n {
+        let (a, b) = (draw.next(), draw.next());
+        let input: [i16; 8] = std::array::from_fn(|i| (if i < 4 { a >> (16 * i) } else { b >> (16 * i - 64) }) as i16);
+        let mut output = [0i32; 8];
+        if rattle {
+            unsafe { rattle_analyze(&mut history, &input, &mut output, subbands) };
+        } else {
+            exports::analysis(&mut history, &input[..subbands], &mut output[..subbands]);
+        }
+        for pair in output.chunks_exact(2) {
+            digest = mix(digest, (pair[0] as u32 as u64) << 32 | pair[1] as u32 as u64);
+        }
+    }
+    digest
+}
+
 fn main() {
     let words: Vec<String> = std::env::args().collect();
     let rattle = words[2] == "rattle";
@@ -138,6 +184,10 @@ fn main() {
         "allocate_dual_8" => allocate(rattle, n, 1, 8, 40),
         "allocate_mono_8" => allocate(rattle, n, 0, 8, 26),
         "allocate_joint_4" => allocate(rattle, n, 3, 4, 30),
+        "synthesize_8" => synthesize(rattle, n, 8),
+        "synthesize_4" => synthesize(rattle, n, 4),
+        "analyze_8" => analyze(rattle, n, 8),
+        "analyze_4" => analyze(rattle, n, 4),
         "quantize_8_values" => quantize(rattle, n),
         "reconstruct_8_values" => reconstruct(rattle, n),
         "scale_factor_8_values" => scale_factor(rattle, n),

@@ -1,4 +1,4 @@
--- Laws of a field read through a window of whole bytes.
+-- Laws of a field that is read: through a window of whole bytes, and by the place where its bits stand.
 -- Assumes nothing.
 use Prim.Native.Nat.{ℕ, _+_, _-_, _*_, _/_, _%_, _^_, _≤_, _<_}
 use mathlib.Core.Path.{_≡_, sym, ap, _∙_, subst}
@@ -8,10 +8,11 @@ use native.Mathlib.Nat.{lt-of-lt-of-le}
 use native.Mathlib.Numerals.{add-one}
 use native.Mathlib.Omega.{arith}
 use lib.ListN.{length, getD, take, drop, length-append, length-take, length-drop}
-use lib.Seq.{length-take-le, take-suc, drop-drop, getD-drop}
+use lib.Seq.{length-take-le, take-at, take-suc, drop-drop, getD-drop}
 use lib.Pow.{pow-mono}
-use Rattle.laws.specs.Bits.{bitsOf, numberOf, bitsOfBytes}
-use Rattle.laws.proofs.Bits.{length-bitsOf, number-lt, number-of-bits, number-append, number-part}
+use Rattle.laws.specs.Bits.{odd, digit, bitsOf, numberOf, bitsOfBytes}
+use Rattle.laws.proofs.Lists.{At}
+use Rattle.laws.proofs.Bits.{odd-digit, length-bitsOf, number-lt, number-of-bits, number-append, number-part, number-take-lt}
 use Rattle.laws.proofs.Bits.{length-bitsOfBytes, bits-of-append, drop-bytes, take-bytes}
 use Rattle.bits.specs.Fields.{numberAt}
 use Rattle.laws.proofs.Parts.{part-take}
@@ -62,3 +63,23 @@ window-number bytes position count size h k =
     ap (λ (l : List Bool). take count (drop (position % 8) l)) e ∙ part-take (drop (8 * first) bits) (8 * size) (position % 8) count h ld
     ∙ ap (take count) (drop-drop (position % 8) (8 * first) bits) ∙ ap (λ (i : ℕ). take count (drop i bits)) p in
     ap numberOf (sym f) ∙ number-part (bitsOfBytes w) (position % 8) count (8 * size - position % 8 - count) lw
+
+-- ---- a field fits its width, wherever it is read
+pub number-at-lt : (bytes : List ℕ) (position count : ℕ) → numberAt bytes position count < 2 ^ count
+unfolding numberAt
+number-at-lt bytes position count = number-take-lt count (drop position (bitsOfBytes bytes))
+
+-- ---- a field by its place
+-- a number whose bits stand at a position is read there
+pub read-number : (bytes : List ℕ) (position count v : ℕ) → At (bitsOfBytes bytes) position (bitsOf count v) → v < 2 ^ count
+    → numberAt bytes position count ≡ v
+unfolding numberAt
+read-number bytes position count v (r, e) h =
+    rw (e, take-at (bitsOf count v) r count (length-bitsOf count v)) (number-of-bits count v h)
+
+-- and so is a bit
+pub read-flag : (bytes : List ℕ) (position : ℕ) (b : Bool) → At (bitsOfBytes bytes) position (b ∷ []) → odd (numberAt bytes position 1) ≡ b
+unfolding numberAt numberOf
+read-flag bytes position b (r, e) =
+    let o : digit b * 1 + 0 ≡ digit b = omega arith in
+    rw e (ap odd o ∙ odd-digit b)

@@ -4,13 +4,13 @@ use Prim.Native.Nat.{ℕ, zero, suc, _+_, _*_, _/_, _%_, _^_, _<_}
 use mathlib.Core.Path.{_≡_, refl, sym, ap, ap₂, _∙_, subst}
 use mathlib.Core.Bool.{Bool, true, false}
 use mathlib.Core.List.{List, [], _∷_, _++_, append-assoc}
-use native.Mathlib.Nat.{mod-eq-of-lt, mod-one, pow-succ', mul-assoc, mul-add-div-right, zero-add, add-mul}
+use native.Mathlib.Nat.{mod-eq-of-lt, mod-one, pow-succ', mul-assoc, mul-add-div-right, zero-add, add-mul, lt-of-lt-of-le}
 use native.Mathlib.Numerals.{add-one, one-add}
 use native.Mathlib.Omega.{arith}
-use lib.Dec.{eqb}
-use lib.ListN.{length, getD, take, drop, length-append, length-drop, take-append-drop}
+use lib.Dec.{eqb, lit<}
+use lib.ListN.{length, getD, take, drop, length-append, length-take, length-drop, take-append-drop}
 use lib.Seq.{drop-cons, take-at, drop-at, length-take-le, take-nil, drop-nil, take-append-add, drop-append-add}
-use lib.Pow.{pow-pos, pow-add, mod-pow-add, shr-shr, high, low}
+use lib.Pow.{pow-pos, pow-mono, pow-add, mod-pow-add, shr-shr, high, low}
 use lib.Arith.{digits-lt}
 use Rattle.laws.specs.Bits.{odd, digit, bitsOf, numberOf, bitsOfBytes, bytesOf}
 
@@ -175,3 +175,28 @@ pub bits-drop : (bytes : List ℕ) (i : ℕ) → i < length bytes
 unfolding bitsOfBytes
 bits-drop bytes i h =
     ap bitsOfBytes (drop-cons bytes i 0 h) ∙ ap (λ (k : ℕ). bitsOf 8 (getD bytes i 0) ++ bitsOfBytes (drop k bytes)) (sym (add-one i))
+
+-- ---- numbers of at most n bits, and lists of bytes
+pub number-take-lt : (n : ℕ) (bits : List Bool) → numberOf (take n bits) < 2 ^ n
+number-take-lt n bits =
+    lt-of-lt-of-le (number-lt (take n bits)) (pow-mono {i = length (take n bits)} {j = n} (omega (arith, length-take n bits)))
+
+-- each entry is a byte; what stands for the rest, 0, is one too
+abbrev pub Bytes : List ℕ → Type 0
+Bytes bytes = (i : ℕ) → getD bytes i 0 < 256
+
+-- one byte more in front
+pub bytes-cons : (x : ℕ) (xs : List ℕ) → x < 256 → Bytes xs → Bytes (x ∷ xs)
+bytes-cons x xs h hs zero = h
+bytes-cons x xs h hs (suc i) = hs i
+
+-- bytes behind bytes
+pub bytes-append : (xs ys : List ℕ) → Bytes xs → Bytes ys → Bytes (xs ++ ys)
+bytes-append [] ys hx hy = hy
+bytes-append (x ∷ xs) ys hx hy = bytes-cons x (xs ++ ys) (hx 0) (bytes-append xs ys (λ i. hx (suc i)) hy)
+
+-- what is made of bits
+pub bytes-of : (n : ℕ) (bits : List Bool) → Bytes (bytesOf n bits)
+unfolding bytesOf
+bytes-of zero bits = λ i. lit< tt
+bytes-of (suc n) bits = bytes-cons (numberOf (take 8 bits)) (bytesOf n (drop 8 bits)) (number-take-lt 8 bits) (bytes-of n (drop 8 bits))

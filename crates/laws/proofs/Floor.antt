@@ -1,6 +1,6 @@
--- `floorDiv`, the division that rounds down: its remainder, and bounds.
+-- Bounds of `floorDiv`, the division that rounds down.
 -- Assumes nothing.
-use Prim.Native.Nat.{ℕ, suc, _*_, _-_, _%_, _≤_, _<_}
+use Prim.Native.Nat.{ℕ, _*_, _≤_, _<_}
 use mathlib.Core.Path.{subst}
 use native.Mathlib.Nat.{mul-comm, div-le-of-le-mul, div-lt-iff-lt-mul, lt-of-le-of-lt}
 use lib.IntN.{ℤ, pos, negsuc, natAbs}
@@ -8,11 +8,6 @@ use lib.Signed.{mag-shr}
 use mir.Syntax.{Width}
 use mir.Val.{SFits}
 use Rattle.laws.specs.Integers.{floorDiv}
-
--- the remainder, from 0 to m - 1
-abbrev pub modZ : ℤ → ℕ → ℕ
-modZ (pos a) m = a % m
-modZ (negsuc a) m = m - suc (a % m)
 
 -- a number within b * m gives one within b
 pub natAbs-floor : (z : ℤ) (m b : ℕ) → 0 < m → natAbs z ≤ b * m → natAbs (floorDiv z m) ≤ b

@@ -1,0 +1,78 @@
+-- `sbc_filterbank::analysis::shift_history` meets its contract. The loop's invariant: from place k + S on the history is moved, and below it
+-- stands as it was.
+-- Assumes nothing.
+use Prim.Native.Nat.{_+_, _*_, _-_, _≤_}
+use mathlib.Core.Path.{_≡_}
+use native.Mathlib.Omega.{arith}
+use lib.ListN.{length, getD}
+use lib.IntN.{pos}
+use Rattle.laws.specs.Lists.{build}
+use Rattle.sbc_filterbank.specs.Fold.{joinAt, movedUp}
+use Rattle.sbc_filterbank.proofs.Bands.{bands-le}
+use Rattle.sbc_filterbank.proofs.History.{none-moved, moved-step, joined-at}
+use Rattle.sbc_filterbank.proofs.analysis.shift_history.Statement.{statement}
+use Rattle.sbc_filterbank.proofs.analysis.shift_history.Tie as tie
+
+abbrev Inv-loop : tie.InvT-loop
+Inv-loop history₀ subbands k₀ history k =
+    (k ≤ 9 * subbands) × (history ≡ build (length history₀) (joinAt (k + subbands) (λ i. getD history₀ i (pos 0)) (movedUp subbands history₀)))
+
+abbrev μ-loop : tie.MeasureT-loop
+μ-loop history₀ subbands k₀ history k = k
+
+mul-k : tie.Need-mul-k Inv-loop μ-loop
+mul-k c = omega (arith, bands-le (c .pre))
+
+loop-holds : tie.Need-loop-holds Inv-loop μ-loop
+loop-holds c = (omega arith, none-moved (c .args .history .now) (c .args .subbands) _ (omega arith))
+
+sub-k : tie.Need-sub-k Inv-loop μ-loop
+sub-k c = omega arith
+
+mul-history : tie.Need-mul-history Inv-loop μ-loop
+mul-history c = omega (arith, bands-le (c .before .before .pre))
+
+element-copy-out-history : tie.Need-element-copy-out-history Inv-loop μ-loop
+element-copy-out-history c = omega (arith, bands-le (c .before .before .pre))
+
+add-t9 : tie.Need-add-t9 Inv-loop μ-loop
+add-t9 c = omega (arith, bands-le (c .before .before .before .pre))
+
+mul-t10 : tie.Need-mul-t10 Inv-loop μ-loop
+mul-t10 c = omega (arith, bands-le (c .before .before .before .pre))
+
+element-set-from-history : tie.Need-element-set-from-history Inv-loop μ-loop
+element-set-from-history c = omega (arith, bands-le (c .before .before .before .pre))
+
+loop-less : tie.Need-loop-less Inv-loop μ-loop
+loop-less c = omega arith
+
+loop-again : tie.Need-loop-again Inv-loop μ-loop
+loop-again c =
+    let start = c .before .before .before in
+    let turn = c .before .before .loop in (
+      omega arith,
+      moved-step (start .args .subbands) (start .args .history .now) (turn .history) (turn .k - 1) (turn .k) (omega arith) (omega arith)
+          (turn .inv .1) (c .history .given),
+    )
+
+returns : tie.Need-returns Inv-loop μ-loop
+returns c = joined-at _ _ _ _ _ _ (omega arith) (c .before .loop .inv .1)
+
+pub shift-history-spec : {M : Type 1} → statement M
+shift-history-spec =
+    tie.close
+    (tie.spec
+    Inv-loop
+    μ-loop
+    mul-k
+    loop-holds
+    sub-k
+    mul-history
+    element-copy-out-history
+    add-t9
+    mul-t10
+    element-set-from-history
+    loop-less
+    loop-again
+    returns)

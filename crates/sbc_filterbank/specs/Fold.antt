@@ -1,0 +1,105 @@
+-- How the code takes the sums in parts, for the contracts of its inner functions alone: entries whose cosines are equal or opposite are
+-- added or subtracted first, and the history moves in two steps. Nothing public cites this.
+use Prim.Native.Nat.{ℕ, _+_, _*_, _-_, _/_, _%_, _^_, _≤_}
+use mathlib.Core.List.{List, _++_}
+use lib.Dec.{eqb, leb, ltb}
+use lib.ListN.{length, getD}
+use lib.IntN.{ℤ, pos, negsuc, _+ℤ_, _-ℤ_, _*ℤ_}
+use mir.Syntax.{w32}
+use Rattle.laws.specs.Choice.{if_then_else_}
+use Rattle.laws.specs.Lists.{collect, build}
+use Rattle.laws.specs.Integers.{floorDiv, clampZ, Within}
+use Rattle.laws.specs.Sums.{sumZ}
+use Rattle.sbc_filterbank.specs.Analysis.{analysisCosine}
+use Rattle.sbc_filterbank.specs.Synthesis.{synthesisCosine}
+
+-- ---- the history: f below n, and g from n on
+abbrev pub joinAt : ℕ → (ℕ → ℤ) → (ℕ → ℤ) → ℕ → ℤ
+joinAt n f g k = if ltb k n then f k else g k
+
+-- it moves up by S within its first 10 S places
+abbrev pub movedUp : ℕ → List ℤ → ℕ → ℤ
+movedUp S X k = if ltb k (10 * S) then getD X (k - S) (pos 0) else getD X k (pos 0)
+
+abbrev pub moved : ℕ → List ℤ → List ℤ
+moved S X = build (length X) (joinAt S (λ k. getD X k (pos 0)) (movedUp S X))
+
+-- and the new samples come to the front, newest first
+abbrev pub entering : ℕ → List ℤ → ℕ → ℤ
+entering S input k = getD input (S - 1 - k) (pos 0)
+
+abbrev pub entered : ℕ → List ℤ → List ℤ → List ℤ
+entered S input X = build (length X) (joinAt S (entering S input) (λ k. getD X k (pos 0)))
+
+-- ---- a matrix of cosines holds `count` of them, at most four, from `at` on
+abbrev pub Part : List ℤ → ℕ → ℕ → Type 0
+Part matrix at count = (count ≤ 4) × (at + count ≤ 32) × (at + count ≤ length matrix) × (Within (2 ^ 30) matrix)
+
+-- ---- analysis: column c of Y is Y[S/2 + c], with Y[S/2 - c] added up to column S/2, and Y[5 S/2 - c] subtracted past it
+abbrev pub foldSign : ℕ → ℕ → ℤ
+foldSign S c = if eqb c 0 then pos 0 else (if leb c (S / 2) then pos 1 else negsuc 0)
+
+abbrev pub foldMirror : ℕ → ℕ → ℕ
+foldMirror S c = if leb c (S / 2) then S / 2 - c else 5 * (S / 2) - c
+
+unfoldable pub foldColumn : ℕ → (ℕ → ℤ) → ℕ → ℤ
+foldColumn S Y c = Y (S / 2 + c) +ℤ foldSign S c *ℤ Y (foldMirror S c)
+
+-- the matrix: for each output in the first half, the cosines of its even columns, and then those of its odd ones
+unfoldable pub analysisColumns : ℕ → List ℤ
+analysisColumns S =
+    collect (S / 2) (λ i. build (S / 2) (λ n. analysisCosine S i (S / 2 + 2 * n)) ++ build (S / 2) (λ n. analysisCosine S i (S / 2 + 2 * n + 1)))
+
+-- entries of the matrix, from `at` on, times the even columns (odd = 0), or the odd ones (1); and all that output i takes of them
+abbrev pub columnTerm : List ℤ → List ℤ → ℕ → ℕ → ℕ → ℤ
+columnTerm matrix columns at odd n = getD matrix (at + n) (pos 0) *ℤ getD columns (2 * n + odd) (pos 0)
+
+unfoldable pub columnSum : ℕ → List ℤ → ℕ → ℕ → ℤ
+columnSum S columns odd i = sumZ (S / 2) (columnTerm (analysisColumns S) columns (i * S + odd * (S / 2)) odd)
+
+-- output i from the sums of the even and of the odd columns: their sum, and in the second half the mirrored output's difference
+unfoldable pub outputSum : ℕ → (ℕ → ℤ) → (ℕ → ℤ) → ℕ → ℤ
+outputSum S even odd i = if ltb i (S / 2) then even i +ℤ odd i else even (S - 1 - i) -ℤ odd (S - 1 - i)
+
+unfoldable pub outputValue : ℕ → (ℕ → ℤ) → (ℕ → ℤ) → ℕ → ℤ
+outputValue S even odd i = floorDiv (outputSum S even odd i) (2 ^ 33)
+
+-- ---- synthesis: s[n] with its mirror s[S - 1 - n] added (odd = 0), or subtracted (1)
+abbrev pub pairSign : ℕ → ℤ
+pairSign odd = if eqb odd 0 then pos 1 else negsuc 0
+
+unfoldable pub pairOf : ℕ → ℕ → (ℕ → ℤ) → ℕ → ℤ
+pairOf S odd s n = s n +ℤ pairSign odd *ℤ s (S - 1 - n)
+
+-- the row of V that row m of the matrix gives, and whether it takes the sums (0) or the differences (1)
+abbrev pub rowOf : ℕ → ℕ → ℕ
+rowOf S m = if ltb m (S / 2) then m else m + S / 2 + 1
+
+abbrev pub rowOdd : ℕ → ℕ → ℕ
+rowOdd S m = (rowOf S m + S / 2) % 2
+
+-- the matrix: for each row of V that is not a mirror of another, the cosines of its first S/2 subbands
+unfoldable pub synthesisRows : ℕ → List ℤ
+synthesisRows S = collect S (λ m. build (S / 2) (λ n. synthesisCosine S (rowOf S m) n))
+
+-- entries of the matrix, from `at` on, times pairs; and all of row m
+abbrev pub rowTerm : List ℤ → List ℤ → ℕ → ℕ → ℤ
+rowTerm matrix pairs at n = getD matrix (at + n) (pos 0) *ℤ getD pairs n (pos 0)
+
+unfoldable pub rowSum : ℕ → List ℤ → List ℤ → ℕ → ℤ
+rowSum S sums differences m = sumZ (S / 2) (rowTerm (synthesisRows S) (if eqb (rowOdd S m) 0 then sums else differences) (m * (S / 2)))
+
+-- row r of V before it is divided: the row of the matrix that it comes from, and its sign; row S/2 is 0
+abbrev pub rowSource : ℕ → ℕ → ℕ
+rowSource S r =
+    if ltb r (S / 2) then r else (if leb r S then S - r else (if leb r (3 * (S / 2)) then r - S / 2 - 1 else 5 * (S / 2) - r - 1))
+
+abbrev pub rowSign : ℕ → ℕ → ℤ
+rowSign S r = if eqb r (S / 2) then pos 0 else (if ltb r (S / 2) then pos 1 else (if leb r S then negsuc 0 else pos 1))
+
+unfoldable pub signedRow : ℕ → List ℤ → ℕ → ℤ
+signedRow S rows r = rowSign S r *ℤ getD rows (rowSource S r) (pos 0)
+
+-- V[r] from the rows
+unfoldable pub rowValue : ℕ → List ℤ → ℕ → ℤ
+rowValue S rows r = clampZ w32 (floorDiv (signedRow S rows r) (2 ^ 30))

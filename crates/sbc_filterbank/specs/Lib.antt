@@ -1,0 +1,5 @@
+pub mod Subbands
+pub mod Analysis
+pub mod Synthesis
+pub mod Ring
+pub mod Fold

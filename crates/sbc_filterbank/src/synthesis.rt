@@ -1,0 +1,271 @@
+// The synthesis filterbank: the samples of the subbands give a vector, which enters a ring of ten, and the ten vectors give a block.
+//
+// Each loop is written once, over the number of subbands; `synthesize8` and `synthesize4` hand it down as a literal, so that the compiler
+// makes a loop of known length for each.
+use crate::matrices::SYNTHESIS_4_ROWS;
+use crate::matrices::SYNTHESIS_8_ROWS;
+ghost use mathlib.Core.Path.{_≡_};
+ghost use Prim.Native.Nat.{_+_, _*_, _/_, _%_, _^_, _≤_, _<_};
+ghost use lib.ListN.{getD, replicate};
+ghost use lib.IntN.{pos, natAbs};
+ghost use Rattle.laws.specs.Lists.{build};
+ghost use Rattle.laws.specs.Integers.{Within};
+ghost use Rattle.laws.specs.Sums.{sumZ, upTo, overwrite};
+ghost use Rattle.sbc_tables.specs.Tables.{prototype};
+ghost use Rattle.sbc_filterbank.specs.Subbands.{Bands, bandsOf, padded};
+ghost use Rattle.sbc_filterbank.specs.Synthesis.{modulated, vectorPlace, sampleTerm, rounded, synthesisOutputs};
+ghost use Rattle.sbc_filterbank.specs.Ring.{ring, nextSlot, ringPushed};
+ghost use Rattle.sbc_filterbank.specs.Fold.{Part, pairOf, rowOdd, synthesisRows, rowTerm, rowSum, signedRow, rowValue};
+
+// The last ten vectors, in a ring of ten slots; the slot `newest` holds the newest.
+pub struct Synthesis {
+    pub values: [i32; 160],
+    pub newest: usize,
+}
+
+impl Synthesis {
+    // Ten vectors of zeros.
+    pub fn new() -> Synthesis
+        ensures values { λ r. ⌜ r .values ≡ replicate 160 (pos 0) ⌝ }
+        ensures newest { λ r. ⌜ r .newest ≡ 0 ⌝ }
+    {
+        Synthesis {
+            values: [0i32; 160],
+            newest: 0,
+        }
+    }
+}
+
+// The slot that the next vector takes, which is then the newest: the one before, round the ring. Any number counts mod 10; a slot is below
+// 10, and needs no division.
+pub fn advance(newest: usize) -> usize
+    ensures { λ r. ⌜ r ≡ nextSlot newest ⌝ }
+{
+    if newest == 0 {
+        return 9;
+    }
+    if newest < 10 {
+        return newest - 1;
+    }
+    (newest % 10 + 9) % 10
+}
+
+// s[n] with its mirror added (`odd` 0), or subtracted (1). The cosines of a row are equal or opposite at the two, so each product serves both.
+fn pair(input: &[i32; 8], subbands: usize, odd: usize, n: usize) -> i32
+    requires { ⌜ (Bands subbands) × (n < subbands / 2) × (Within (2 ^ 29) (now input)) ⌝ }
+    ensures { λ r. ⌜ r ≡ pairOf subbands odd (λ k. getD (now (input .entry)) k (pos 0)) n ⌝ }
+{
+    let left = input[n];
+    let right = input[subbands - 1 - n];
+    if odd == 0 {
+        return left + right;
+    }
+    left - right
+}
+
+// The S/2 sums, or the S/2 differences.
+fn pair_all(input: &[i32; 8], subbands: usize, odd: usize) -> [i32; 4]
+    requires { ⌜ (Bands subbands) × (Within (2 ^ 29) (now input)) ⌝ }
+    ensures { λ r. ⌜ r ≡ build 4 (upTo (subbands / 2) (pairOf subbands odd (λ k. getD (now (input .entry)) k (pos 0)))) ⌝ }
+{
+    let mut pairs = [0i32; 4];
+    for n in 0..subbands / 2 {
+        pairs[n] = pair(input, subbands, odd, n);
+    }
+    pairs
+}
+
+// `count` entries of the matrix, from `at` on, times the pairs.
+fn row_sum(matrix: &[i32], pairs: &[i32; 4], at: usize, count: usize) -> i64
+    requires { ⌜ (Within (2 ^ 30) (now pairs)) × (Part (now matrix) at count) ⌝ }
+    ensures { λ r. ⌜ r ≡ sumZ count (rowTerm (now (matrix .entry)) (now (pairs .entry)) at) ⌝ }
+{
+    let mut sum = 0i64;
+    for n in 0..count {
+        sum = laws::multiply_add(sum, matrix[at + n], pairs[n]);
+    }
+    sum
+}
+
+// Row m of the matrix, times the sums or the differences.
+fn row(matrix: &[i32], sums: &[i32; 4], differences: &[i32; 4], subbands: usize, m: usize) -> i64
+    requires { ⌜ (Bands subbands) × (m < subbands) × (now matrix ≡ synthesisRows subbands) × (Within (2 ^ 30) (now sums)) × (Within (2 ^ 30) (now differences)) ⌝ }
+    ensures { λ r. ⌜ r ≡ rowSum subbands (now (sums .entry)) (now (differences .entry)) m ⌝ }
+{
+    let half = subbands / 2;
+    if row_odd(subbands, m) == 0 {
+        return row_sum(matrix, sums, m * half, half);
+    }
+    row_sum(matrix, differences, m * half, half)
+}
+
+// 0 if row m takes the sums, and 1 if it takes the differences. The matrix leaves out the rows that mirror others.
+fn row_odd(subbands: usize, m: usize) -> usize
+    requires { ⌜ (subbands ≤ 8) × (m < subbands) ⌝ }
+    ensures { λ r. ⌜ r ≡ rowOdd subbands m ⌝ }
+{
+    let half = subbands / 2;
+    if m < half {
+        return (m + half) % 2;
+    }
+    (m + half + 1 + half) % 2
+}
+
+// The S rows.
+fn row_all(matrix: &[i32], sums: &[i32; 4], differences: &[i32; 4], subbands: usize) -> [i64; 8]
+    requires { ⌜ (Bands subbands) × (now matrix ≡ synthesisRows subbands) × (Within (2 ^ 30) (now sums)) × (Within (2 ^ 30) (now differences)) ⌝ }
+    ensures { λ r. ⌜ r ≡ build 8 (upTo subbands (rowSum subbands (now (sums .entry)) (now (differences .entry)))) ⌝ }
+{
+    let mut rows = [0i64; 8];
+    for m in 0..subbands {
+        rows[m] = row(matrix, sums, differences, subbands, m);
+    }
+    rows
+}
+
+// Row r of V, before it is divided: a row of the matrix, or the mirror of one, which may change the sign. The sign is put on here, since
+// the division rounds down: the other way round it would round up.
+fn signed_row(rows: &[i64; 8], subbands: usize, r: usize) -> i64
+    requires { ⌜ (Bands subbands) × (r < 2 * subbands) × (Within (2 ^ 62) (now rows)) ⌝ }
+    ensures { λ z. ⌜ z ≡ signedRow subbands (now (rows .entry)) r ⌝ }
+{
+    let half = subbands / 2;
+    if r < half {
+        return rows[r];
+    }
+    if r == half {
+        return 0;
+    }
+    if r <= subbands {
+        return 0 - rows[subbands - r];
+    }
+    if r <= 3 * half {
+        return rows[r - half - 1];
+    }
+    rows[5 * half - r - 1]
+}
+
+// V[r].
+fn modulate(rows: &[i64; 8], subbands: usize, r: usize) -> i32
+    requires { ⌜ (Bands subbands) × (r < 2 * subbands) × (Within (2 ^ 62) (now rows)) ⌝ }
+    ensures { λ z. ⌜ z ≡ rowValue subbands (now (rows .entry)) r ⌝ }
+{
+    laws::clamp_i32(signed_row(rows, subbands, r) >> 30)
+}
+
+// V into the ring, from `at` on.
+fn push(values: &mut [i32; 160], rows: &[i64; 8], subbands: usize, at: usize)
+    requires { ⌜ (Bands subbands) × (at + 2 * subbands ≤ 160) × (Within (2 ^ 62) (now rows)) ⌝ }
+    ensures { λ z. ⌜ now (values .exit) ≡ overwrite at (2 * subbands) (rowValue subbands (now (rows .entry))) (now (values .entry)) ⌝ }
+{
+    for r in 0..2 * subbands {
+        values[at + r] = modulate(rows, subbands, r);
+    }
+}
+
+// The slot of the b-th newest vector.
+fn slot_of(newest: usize, b: usize) -> usize
+    requires { ⌜ (newest < 10) × (b < 10) ⌝ }
+    ensures { λ z. ⌜ z ≡ (newest + b) % 10 ⌝ }
+{
+    let slot = newest + b;
+    if slot < 10 {
+        return slot;
+    }
+    slot - 10
+}
+
+// Where V_b[j], or V_b[S + j] for odd b, stands in the ring.
+fn place(newest: usize, subbands: usize, j: usize, b: usize) -> usize
+    requires { ⌜ (Bands subbands) × (newest < 10) × (j < subbands) × (b < 10) ⌝ }
+    ensures { λ z. ⌜ (z ≡ 2 * subbands * ((newest + b) % 10) + vectorPlace subbands j b) × (z < 160) ⌝ }
+{
+    2 * subbands * slot_of(newest, b) + (b % 2 * subbands + j)
+}
+
+// The sum of output j, before it is rounded. The index is stepped and the bound depends on S: then the compiler unrolls the loop into
+// products with constants.
+fn sample_sum(values: &[i32; 160], taps: &[i32], newest: usize, subbands: usize, j: usize) -> i64
+    requires { ⌜ (Bands subbands) × (newest < 10) × (j < subbands) × (now taps ≡ prototype subbands) ⌝ }
+    ensures { λ z. ⌜ (z ≡ sumZ 10 (sampleTerm subbands (ring subbands (now (values .entry)) newest) j)) × (natAbs z ≤ 800000000 * 2 ^ 31) ⌝ }
+{
+    let mut sum = 0i64;
+    let mut b = 0usize;
+    let mut index = j;
+    while index < 10 * subbands {
+        let at = place(newest, subbands, j, b);
+        sum = laws::multiply_add(sum, taps[index], values[at]);
+        b = b + 1;
+        index = index + subbands;
+    }
+    sum
+}
+
+// The sum divided, rounded to the nearest and clamped.
+fn round(sum: i64, subbands: usize) -> i16
+    requires { ⌜ natAbs sum ≤ 800000000 * 2 ^ 31 ⌝ }
+    ensures { λ z. ⌜ z ≡ rounded subbands sum ⌝ }
+{
+    if subbands == 4 {
+        return laws::clamp_i16((0x20_0000_0000 - sum) >> 38);
+    }
+    laws::clamp_i16((0x10_0000_0000 - sum) >> 37)
+}
+
+// The S outputs.
+fn output(values: &[i32; 160], taps: &[i32], newest: usize, subbands: usize) -> [i16; 8]
+    requires { ⌜ (Bands subbands) × (newest < 10) × (now taps ≡ prototype subbands) ⌝ }
+    ensures { λ z. ⌜ z ≡ padded (synthesisOutputs subbands (ring subbands (now (values .entry)) newest)) ⌝ }
+{
+    let mut out = [0i16; 8];
+    for j in 0..subbands {
+        out[j] = round(sample_sum(values, taps, newest, subbands, j), subbands);
+    }
+    out
+}
+
+// One block of synthesis with 8 subbands. The ring is altered where the caller has it, and its newest slot is then `advance(newest)`. The
+// bound on the samples keeps pairs within an i32 and sums within an i64.
+pub fn synthesize8(values: &mut [i32; 160], input: &[i32; 8], newest: usize) -> [i16; 8]
+    requires { ⌜ Within (2 ^ 29) (now input) ⌝ }
+    ensures values { λ z. ⌜ now (values .exit) ≡ ringPushed 8 (modulated 8 (now (input .entry))) (now (values .entry)) newest ⌝ }
+    ensures outputs { λ z. ⌜ z ≡ padded (synthesisOutputs 8 (ring 8 (now (values .exit)) (nextSlot newest))) ⌝ }
+{
+    let slot = advance(newest);
+    let sums = pair_all(input, 8, 0);
+    let differences = pair_all(input, 8, 1);
+    let rows = row_all(&SYNTHESIS_8_ROWS, &sums, &differences, 8);
+    push(values, &rows, 8, 16 * slot);
+    output(values, &sbc_tables::PROTOTYPE_8, slot, 8)
+}
+
+// One block of synthesis with 4 subbands: the first 4 places of `input` count, and the last 4 outputs are 0.
+pub fn synthesize4(values: &mut [i32; 160], input: &[i32; 8], newest: usize) -> [i16; 8]
+    requires { ⌜ Within (2 ^ 29) (now input) ⌝ }
+    ensures values { λ z. ⌜ now (values .exit) ≡ ringPushed 4 (modulated 4 (now (input .entry))) (now (values .entry)) newest ⌝ }
+    ensures outputs { λ z. ⌜ z ≡ padded (synthesisOutputs 4 (ring 4 (now (values .exit)) (nextSlot newest))) ⌝ }
+{
+    let slot = advance(newest);
+    let sums = pair_all(input, 4, 0);
+    let differences = pair_all(input, 4, 1);
+    let rows = row_all(&SYNTHESIS_4_ROWS, &sums, &differences, 4);
+    push(values, &rows, 4, 8 * slot);
+    output(values, &sbc_tables::PROTOTYPE_4, slot, 4)
+}
+
+// One block of synthesis. Any number of subbands but 4 counts as 8.
+pub fn synthesize(
+    values: &mut [i32; 160],
+    input: &[i32; 8],
+    newest: usize,
+    subbands: usize,
+) -> [i16; 8]
+    requires { ⌜ Within (2 ^ 29) (now input) ⌝ }
+    ensures values { λ z. ⌜ now (values .exit) ≡ ringPushed (bandsOf subbands) (modulated (bandsOf subbands) (now (input .entry))) (now (values .entry)) newest ⌝ }
+    ensures outputs { λ z. ⌜ z ≡ padded (synthesisOutputs (bandsOf subbands) (ring (bandsOf subbands) (now (values .exit)) (nextSlot newest))) ⌝ }
+{
+    if subbands == 4 {
+        return synthesize4(values, input, newest);
+    }
+    synthesize8(values, input, newest)
+}

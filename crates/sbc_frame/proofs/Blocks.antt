@@ -1,0 +1,130 @@
+-- For code that goes block by block and keeps a running bit position: one block more at the end of an analysis and of a synthesis, and each
+-- field's position from that of the field before it.
+-- Assumes nothing.
+use Prim.Native.Nat.{ℕ, zero, suc, _+_, _*_}
+use mathlib.Core.Path.{_≡_, refl, sym, ap, _∙_}
+use mathlib.Core.List.{List, [], _∷_, _++_, append-assoc, append-nil}
+use native.Mathlib.Nat.{zero-mul, suc-mul}
+use native.Mathlib.Numerals.{add-one}
+use native.Mathlib.Omega.{arith}
+use lib.IntN.{ℤ}
+use lib.ListN.{length, take, drop, length-append}
+use lib.Seq.{drop-drop}
+use Rattle.laws.specs.Lists.{total}
+use Rattle.laws.proofs.Lists.{length-build}
+use Rattle.sbc_parameters.specs.declared.SbcParameters.{SbcParameters}
+use Rattle.sbc_parameters.specs.Parameters.{channels}
+use Rattle.sbc_parameters.specs.Sizes.{joinCount, sideBits}
+use Rattle.sbc_filterbank.specs.Analysis.{shifted, analysisOutputs}
+use Rattle.sbc_filterbank.specs.Synthesis.{synthesisOutputs}
+use Rattle.sbc_filterbank.specs.declared.synthesis.Synthesis.{Synthesis}
+use Rattle.sbc_frame.specs.Fields.{widthAt, channelWidth}
+use Rattle.sbc_frame.specs.Layout.{factorPosition, valuePosition}
+use Rattle.sbc_frame.specs.Channels.{analyzeBlocks, analysisAfter, synthesized, synthesize, synthesizeBlocks, synthesisAfter}
+use Rattle.sbc_frame.proofs.Positions.{side-bits}
+
+module _ (S : ℕ) where
+  -- ---- analysis
+  -- n blocks behind the first
+  next-drop : (n : ℕ) (pcm : List ℤ) → drop (n * S) (drop S pcm) ≡ drop (suc n * S) pcm
+  next-drop n pcm = let e : S + n * S ≡ suc n * S = omega (arith, suc-mul n S) in drop-drop (n * S) S pcm ∙ rw e
+
+  after-suc : (n : ℕ) (X pcm : List ℤ) → analysisAfter (suc n) S X pcm ≡ shifted S (analysisAfter n S X pcm) (take S (drop (n * S) pcm))
+  unfolding analysisAfter
+  after-suc zero X pcm = rw zero-mul
+  after-suc (suc n) X pcm = after-suc n (shifted S X (take S pcm)) (drop S pcm) ∙ rw next-drop
+
+  -- one block more moves the history
+  pub analysis-after-next : (n : ℕ) (X pcm : List ℤ)
+      → analysisAfter (n + 1) S X pcm ≡ shifted S (analysisAfter n S X pcm) (take S (drop (n * S) pcm))
+  analysis-after-next n X pcm = rw add-one (after-suc n X pcm)
+
+  analyze-suc : (n : ℕ) (X pcm : List ℤ)
+      → analyzeBlocks (suc n) S X pcm ≡ analyzeBlocks n S X pcm ++ (analysisOutputs S (analysisAfter (suc n) S X pcm) ∷ [])
+  unfolding analyzeBlocks analysisAfter
+  analyze-suc zero X pcm = refl
+  analyze-suc (suc n) X pcm =
+      let next : List ℤ = shifted S X (take S pcm) in
+      ap (λ (l : List (List ℤ)). analysisOutputs S next ∷ l) (analyze-suc n next (drop S pcm))
+
+  -- and gives one block of subband samples
+  pub analyze-next : (n : ℕ) (X pcm : List ℤ)
+      → analyzeBlocks (n + 1) S X pcm
+      ≡ analyzeBlocks n S X pcm ++ (analysisOutputs S (shifted S (analysisAfter n S X pcm) (take S (drop (n * S) pcm))) ∷ [])
+  analyze-next n X pcm = rw (add-one, ← after-suc) (analyze-suc n X pcm)
+
+  -- ---- synthesis
+  -- one block more moves the history
+  pub synthesis-after-next : (h : Synthesis) (ss : List (List ℤ)) (s : List ℤ)
+      → synthesisAfter S h (ss ++ (s ∷ [])) ≡ synthesized S (synthesisAfter S h ss) s
+  unfolding synthesisAfter
+  synthesis-after-next h [] s = refl
+  synthesis-after-next h (t ∷ ss) s = synthesis-after-next (synthesized S h t) ss s
+
+  -- and gives one block of samples
+  pub synthesize-next : (h : Synthesis) (ss : List (List ℤ)) (s : List ℤ)
+      → synthesizeBlocks S h (ss ++ (s ∷ [])) ≡ synthesizeBlocks S h ss ++ synthesize S (synthesisAfter S h ss) s
+  unfolding synthesizeBlocks synthesisAfter
+  synthesize-next h [] s = append-nil (synthesize S h s)
+  synthesize-next h (t ∷ ss) s =
+      rw append-assoc (ap (λ (l : List ℤ). synthesize S h t ++ l) (synthesize-next (synthesized S h t) ss s))
+
+  -- a block has S samples
+  pub length-synthesize : (h : Synthesis) (s : List ℤ) → length (synthesize S h s) ≡ S
+  unfolding synthesize synthesisOutputs
+  length-synthesize h s = length-build S _
+
+  -- so n blocks have n times S
+  pub length-synthesizeBlocks : (h : Synthesis) (ss : List (List ℤ)) → length (synthesizeBlocks S h ss) ≡ length ss * S
+  unfolding synthesizeBlocks
+  length-synthesizeBlocks h [] = sym (zero-mul S)
+  length-synthesizeBlocks h (s ∷ ss) =
+      length-append (synthesize S h s) (synthesizeBlocks S (synthesized S h s) ss)
+      ∙ omega (arith, length-synthesize h s, length-synthesizeBlocks (synthesized S h s) ss, suc-mul (length ss) S)
+
+-- ---- positions
+total-next : (n : ℕ) (w : ℕ → ℕ) → total (n + 1) w ≡ total n w + w n
+unfolding total
+total-next n w = rw add-one
+
+module _ (p : SbcParameters) where
+  -- the first scale factor stands behind the join flags
+  pub factor-first : factorPosition p 0 0 ≡ 32 + joinCount p
+  unfolding factorPosition
+  factor-first = omega arith
+
+  -- each takes four bits
+  pub factor-next : (c s : ℕ) → factorPosition p c (s + 1) ≡ factorPosition p c s + 4
+  unfolding factorPosition
+  factor-next c s = omega arith
+
+  -- the next channel's stand behind a channel's last
+  pub factor-channel : (c : ℕ) → factorPosition p (c + 1) 0 ≡ factorPosition p c (p .subbands)
+  unfolding factorPosition
+  factor-channel c = omega arith
+
+  -- and the values behind all of them
+  pub factor-end : factorPosition p (channels p) 0 ≡ 32 + sideBits p
+  unfolding factorPosition
+  factor-end = omega (arith, side-bits p)
+
+  module _ (factors : List (List ℕ)) where
+    -- the first value stands behind the side bits
+    pub value-first : valuePosition p factors 0 0 0 ≡ 32 + sideBits p
+    unfolding valuePosition total
+    value-first = omega arith
+
+    -- each takes its width
+    pub value-next : (b c s : ℕ) → valuePosition p factors b c (s + 1) ≡ valuePosition p factors b c s + widthAt p factors c s
+    unfolding valuePosition
+    value-next b c s = omega (arith, total-next s (widthAt p factors c))
+
+    -- the next channel's stand behind a channel's last
+    pub value-channel : (b c : ℕ) → valuePosition p factors b (c + 1) 0 ≡ valuePosition p factors b c (p .subbands)
+    unfolding valuePosition channelWidth total
+    value-channel b c = omega (arith, total-next c (channelWidth p factors))
+
+    -- and the next block's behind the last channel
+    pub value-block : (b : ℕ) → valuePosition p factors (b + 1) 0 0 ≡ valuePosition p factors b (channels p) 0
+    unfolding valuePosition total
+    value-block b = omega arith

@@ -1,0 +1,8 @@
+-- Laws of a frame: the bits of its values, where its fields lie, the frame that is written, what is read from a frame, and coding one.
+pub mod Widths
+pub mod Positions
+pub mod Written
+pub mod Placed
+pub mod Reading
+pub mod Coding
+pub mod Blocks

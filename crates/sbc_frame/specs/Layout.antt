@@ -1,0 +1,73 @@
+-- A frame as bytes: written from its fields, and read at bit positions. From document 01, "Parameters" and "Checksum".
+use Prim.Native.Nat.{ℕ, _+_, _-_, _*_}
+use mathlib.Core.Bool.{Bool, false}
+use mathlib.Core.List.{List, [], _∷_, _++_}
+use lib.ListN.{length, replicate}
+use Rattle.laws.specs.Lists.{collect, build, total}
+use Rattle.laws.specs.Bits.{odd, bitsOf, bytesOf}
+use Rattle.crc8.specs.Checksum.{checksum}
+use Rattle.bits.specs.Fields.{numberAt}
+use Rattle.sbc_parameters.specs.Parameters.{channels}
+use Rattle.sbc_parameters.specs.Sizes.{joinCount, sideBits, frameLength}
+use Rattle.sbc_parameters.specs.Header.{header}
+use Rattle.sbc_parameters.specs.declared.SbcParameters.{SbcParameters}
+use Rattle.sbc_frame.specs.Fields.{Fields, joinAt, factorAt, valueAt, widthAt, channelWidth}
+
+-- ---- writing: after byte 3 the join flags, the 4-bit scale factors channel by channel, the quantized values by block, channel, subband
+
+unfoldable pub flagBits : SbcParameters → Fields → List Bool
+flagBits p f = collect (joinCount p) (λ s. joinAt f s ∷ [])
+
+unfoldable pub channelFactorBits : SbcParameters → Fields → ℕ → List Bool
+channelFactorBits p f c = collect (p .subbands) (λ s. bitsOf 4 (factorAt f c s))
+
+unfoldable pub factorBits : SbcParameters → Fields → List Bool
+factorBits p f = collect (channels p) (channelFactorBits p f)
+
+unfoldable pub channelValueBits : SbcParameters → Fields → ℕ → ℕ → List Bool
+channelValueBits p f b c = collect (p .subbands) (λ s. bitsOf (widthAt p (f .factors) c s) (valueAt f b c s))
+
+unfoldable pub blockValueBits : SbcParameters → Fields → ℕ → List Bool
+blockValueBits p f b = collect (channels p) (channelValueBits p f b)
+
+unfoldable pub valueBits : SbcParameters → Fields → List Bool
+valueBits p f = collect (p .blocks) (blockValueBits p f)
+
+unfoldable pub bodyBits : SbcParameters → Fields → List Bool
+bodyBits p f = flagBits p f ++ (factorBits p f ++ valueBits p f)
+
+-- the bytes behind byte 3; the spare bits of the last are 0
+unfoldable pub body : SbcParameters → Fields → List ℕ
+body p f =
+    let size = frameLength p - 4 in
+    bytesOf size (bodyBits p f ++ replicate (8 * size - length (bodyBits p f)) false)
+
+-- header, checksum, body; the checksum does not look at byte 3
+unfoldable pub pack : SbcParameters → Fields → List ℕ
+pack p f = header p ++ (checksum (header p ++ (0 ∷ body p f)) (sideBits p) ∷ body p f)
+
+-- ---- reading: the positions count bits from the frame's first, and byte 4 begins at bit 32
+
+unfoldable pub factorPosition : SbcParameters → ℕ → ℕ → ℕ
+factorPosition p c s = 32 + (joinCount p + (c * (4 * p .subbands) + s * 4))
+
+-- behind all blocks before, all channels before in the block, and all subbands before in the channel
+unfoldable pub valuePosition : SbcParameters → List (List ℕ) → ℕ → ℕ → ℕ → ℕ
+valuePosition p factors b c s =
+    32 + (sideBits p + (b * total (channels p) (channelWidth p factors) + (total c (channelWidth p factors) + total s (widthAt p factors c))))
+
+unfoldable pub readJoin : SbcParameters → List ℕ → List Bool
+readJoin p frame = build (joinCount p) (λ s. odd (numberAt frame (32 + s) 1))
+
+unfoldable pub readFactors : SbcParameters → List ℕ → List (List ℕ)
+readFactors p frame = build (channels p) (λ c. build (p .subbands) (λ s. numberAt frame (factorPosition p c s) 4))
+
+unfoldable pub readValues : SbcParameters → List ℕ → List (List ℕ) → List (List (List ℕ))
+readValues p frame factors =
+    build (p .blocks)
+    (λ b. build (channels p) (λ c. build (p .subbands) (λ s. numberAt frame (valuePosition p factors b c s) (widthAt p factors c s))))
+
+unfoldable pub unpack : SbcParameters → List ℕ → Fields
+unpack p frame =
+    let factors = readFactors p frame in
+    record { join = readJoin p frame; factors = factors; values = readValues p frame factors }

@@ -1,0 +1,5 @@
+pub mod Fields
+pub mod Layout
+pub mod Channels
+pub mod Encoding
+pub mod Decoding
