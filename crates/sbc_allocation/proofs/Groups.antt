@@ -84,7 +84,7 @@ leftFirst-at (suc (suc c)) i (x ∷ ls) (y ∷ rs) h l r = absurd (omega arith)
 leftFirst-at zero (suc i) (x ∷ ls) (y ∷ rs) h l r = leftFirst-at 0 i ls rs h (omega arith) (omega arith)
 leftFirst-at (suc zero) (suc i) (x ∷ ls) (y ∷ rs) h l r = leftFirst-at 1 i ls rs h (omega arith) (omega arith)
 
-sum-append : (xs ys : List ℕ) → sum (xs ++ ys) ≡ sum xs + sum ys
+pub sum-append : (xs ys : List ℕ) → sum (xs ++ ys) ≡ sum xs + sum ys
 unfolding sum
 sum-append [] ys = omega arith
 sum-append (x ∷ xs) ys = omega (arith, sum-append xs ys)

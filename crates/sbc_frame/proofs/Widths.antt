@@ -17,7 +17,7 @@ use Rattle.sbc_allocation.specs.Share.{sum}
 use Rattle.sbc_allocation.specs.Allocate.{allocate}
 use Rattle.sbc_allocation.specs.Shares.{_∈_, Place, placesOf, groupsBy, groups, entryAt}
 use Rattle.sbc_allocation.proofs.Rows.{allocate-16}
-use Rattle.sbc_allocation.proofs.Groups.{shares-fair}
+use Rattle.sbc_allocation.proofs.Groups.{sum-append, shares-fair}
 use Rattle.sbc_frame.specs.Fields.{widthAt, channelWidth}
 
 -- ---- any parameters and scale factors
@@ -27,11 +27,6 @@ unfolding widthAt
 width-le p factors c s = allocate-16 p factors c s
 
 -- ---- the places of a group, by index
-sum-append : (xs ys : List ℕ) → sum (xs ++ ys) ≡ sum xs + sum ys
-unfolding sum
-sum-append [] ys = omega arith
-sum-append (x ∷ xs) ys = omega (arith, sum-append xs ys)
-
 sum-places : (table : List (List ℕ)) (S c : ℕ) → sum (map (entryAt table) (placesOf S c)) ≡ total S (λ s. getD (getD table c []) s 0)
 unfolding placesOf build collect total sum entryAt
 sum-places table zero c = refl
