@@ -78,57 +78,38 @@ fn checksum(rattle: bool, n: u64) -> u64 {
     digest
 }
 
-/// Eight samples a turn, each with a factor and a width of its own.
+/// Eight values a turn, each of a draw of its own.
+fn values(seed: u64, n: u64, value: impl Fn(u64) -> u64) -> u64 {
+    let mut draw = Draw(seed);
+    (0..8 * n).fold(0, |digest, _| mix(digest, value(draw.next())))
+}
+
+/// A factor and a width.
+fn coding(a: u64) -> (u8, u8) {
+    ((a % 16) as u8, (a >> 8) as u8 % 16 + 1)
+}
+
 fn quantize(rattle: bool, n: u64) -> u64 {
-    let mut draw = Draw(3);
-    let mut digest = 0;
-    for _ in 0..n {
-        for _ in 0..8 {
-            let a = draw.next();
-            let (factor, bits) = ((a % 16) as u8, (a >> 8) as u8 % 16 + 1);
-            let sample = ((a >> 16) as i32) >> (16 - factor as i32);
-            let value = if rattle {
-                unsafe { rattle_quantize(sample, factor, bits) }
-            } else {
-                exports::quantized(sample, factor, bits)
-            };
-            digest = mix(digest, value as u64);
-        }
-    }
-    digest
+    values(3, n, |a| {
+        let (factor, bits) = coding(a);
+        let sample = ((a >> 16) as i32) >> (16 - factor as i32);
+        (if rattle { unsafe { rattle_quantize(sample, factor, bits) } } else { exports::quantized(sample, factor, bits) }) as u64
+    })
 }
 
 fn reconstruct(rattle: bool, n: u64) -> u64 {
-    let mut draw = Draw(4);
-    let mut digest = 0;
-    for _ in 0..n {
-        for _ in 0..8 {
-            let a = draw.next();
-            let (factor, bits) = ((a % 16) as u8, (a >> 8) as u8 % 16 + 1);
-            let quantized = (a >> 16) as u32 % (1 << bits);
-            let value = if rattle {
-                unsafe { rattle_reconstruct(quantized, factor, bits) }
-            } else {
-                exports::reconstructed(quantized, factor, bits)
-            };
-            digest = mix(digest, value as u64);
-        }
-    }
-    digest
+    values(4, n, |a| {
+        let (factor, bits) = coding(a);
+        let quantized = (a >> 16) as u32 % (1 << bits);
+        (if rattle { unsafe { rattle_reconstruct(quantized, factor, bits) } } else { exports::reconstructed(quantized, factor, bits) }) as u64
+    })
 }
 
 fn scale_factor(rattle: bool, n: u64) -> u64 {
-    let mut draw = Draw(5);
-    let mut digest = 0;
-    for _ in 0..n {
-        for _ in 0..8 {
-            let a = draw.next();
-            let maximum = (a >> 33) as u32 >> (a % 20);
-            let factor = if rattle { unsafe { rattle_scale_factor(maximum) } } else { exports::factor(maximum as i32) };
-            digest = mix(digest, factor as u64);
-        }
-    }
-    digest
+    values(5, n, |a| {
+        let maximum = (a >> 33) as u32 >> (a % 20);
+        (if rattle { unsafe { rattle_scale_factor(maximum) } } else { exports::factor(maximum as i32) }) as u64
+    })
 }
 
 /// One block a turn, of a ring that all blocks share.

@@ -49,19 +49,16 @@ column-bound k b =
     (λ h. leb→le (column 4 k) 400000000 (at 8 (column-small 4) tt k h))
     (λ h. leb→le (column 8 k) 400000000 (at 16 (column-small 8) tt k h))
 
--- the entries that output j takes
-blocks : ℕ → ℕ → ℕ
-blocks S j = total 10 (λ b. natAbs (prototypeAt S (b * S + j)))
+-- each entry
+tap-small : ℕ → ℕ → Bool
+tap-small S k = leb (natAbs (prototypeAt S k)) 320000000
 
-blocks-small : ℕ → ℕ → Bool
-blocks-small S j = leb (blocks S j) 800000000
-
-pub blocks-bound : {S : ℕ} (j : ℕ) → Bands S → j < S → total 10 (λ b. natAbs (prototypeAt S (b * S + j))) ≤ 800000000
-unfolding blocks blocks-small total prototypeAt prototype prototype4 prototype8
-blocks-bound j b =
-    for-bands (λ s. j < s → blocks s j ≤ 800000000) b
-    (λ h. leb→le (blocks 4 j) 800000000 (at 4 (blocks-small 4) tt j h))
-    (λ h. leb→le (blocks 8 j) 800000000 (at 8 (blocks-small 8) tt j h))
+pub tap-bound : {S : ℕ} (k : ℕ) → Bands S → k < 10 * S → natAbs (prototypeAt S k) ≤ 320000000
+unfolding tap-small prototypeAt prototype prototype4 prototype8
+tap-bound k b =
+    for-bands (λ s. k < 10 * s → natAbs (prototypeAt s k) ≤ 320000000) b
+    (λ h. leb→le (natAbs (prototypeAt 4 k)) 320000000 (at 40 (tap-small 4) tt k h))
+    (λ h. leb→le (natAbs (prototypeAt 8 k)) 320000000 (at 80 (tap-small 8) tt k h))
 
 -- ---- a list in an array of eight: its length, its entries, which are the list's and 0 behind them, and its first entries
 zeros : (n i : ℕ) → getD (replicate n (pos 0)) i (pos 0) ≡ pos 0

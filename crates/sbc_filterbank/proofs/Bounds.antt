@@ -1,28 +1,33 @@
--- The two sums with the prototype, as their loops take them: a sum of products is followed together with its bound, which grows by the
--- prototype's entry at each term, so that what is read of a history need not be known before it is read. And the loops' stepped indexes.
+-- The two sums with the prototype, as the code takes them, with bounds that grow by a term at a time, so that what is read of a history need
+-- not be known before it is read: Y's by the prototype's entries, with its loop's stepped index, and an output's by the largest term. And
+-- the rounding of an output.
 -- Assumes nothing.
-use Prim.Native.Nat.{ℕ, _+_, _*_, _-_, _^_, _≤_, _<_}
+use Prim.Native.Nat.{ℕ, suc, _+_, _*_, _-_, _/_, _^_, _≤_, _<_}
+use mathlib.Core.Bool.{Bool, true, false}
 use mathlib.Core.Path.{_≡_, refl, sym, ap, _∙_, subst}
 use mathlib.Core.List.{List}
-use native.Mathlib.Nat.{le-refl, le-trans, add-mul, add-le-add, mul-le-mul-right}
+use native.Mathlib.Nat.{le-refl, le-trans, le-of-eq, add-mul, suc-mul, add-le-add, mul-le-mul-right}
 use native.Mathlib.Decide.{ℕ-discrete}
 use native.Mathlib.Numerals.{add-one}
 use native.Mathlib.Omega.{arith}
-use lib.Dec.{lit≤}
+use lib.Dec.{ltb, lit≤, lit<}
 use lib.ListN.{getD}
-use lib.IntN.{ℤ, pos, natAbs, _+ℤ_, _-ℤ_, _*ℤ_}
+use lib.IntN.{ℤ, pos, negsuc, negℤ, natAbs, subℕ, _+ℤ_, _-ℤ_, _*ℤ_, +ℤ-comm, +ℤ-idl}
 use lib.Signed.{mag}
 use mir.Syntax.{Width, w16, w32, w64}
 use mir.Val.{SFits, hbits, toZ, ofZ}
-use borrow.Author.Tests.{eq-eqb, ne-eqb}
+use mir.Facts.{toZ-ofZ}
+use borrow.Author.Tests.{eq-eqb, ne-eqb, ltb-true, ltb-false, lt-ltb}
 use Rattle.laws.specs.Lists.{total}
-use Rattle.laws.specs.Integers.{floorDiv, clampZ}
+use Rattle.laws.specs.Integers.{floorDiv, clampZ, Within}
 use Rattle.laws.specs.Sums.{sumZ}
-use Rattle.laws.proofs.Abs.{natAbs-+, natAbs-*-le, abs-sfits, within-fits, difference-fits}
+use Rattle.laws.proofs.Abs.{natAbs-+, natAbs--, natAbs-*-le, abs-sfits, within-fits, sum-fits, difference-fits}
+use Rattle.laws.proofs.Difference.{sub-of-le}
 use Rattle.laws.proofs.Floor.{natAbs-floor}
 use Rattle.laws.proofs.Sums.{next-sum, total-fewer}
 use Rattle.sbc_filterbank.specs.Subbands.{Bands, prototypeAt}
-use Rattle.sbc_filterbank.specs.Synthesis.{vectorAt, vectorPlace, roundingBits, rounded}
+use Rattle.sbc_filterbank.specs.Synthesis.{vectorAt, vectorPlace, sampleTerm, roundingBits, rounded}
+use Rattle.sbc_filterbank.specs.Fold.{termBound}
 use Rattle.sbc_filterbank.proofs.Bands.{for-bands}
 
 -- ---- s is the sum of the first n products p k × x k, and within the sum of the first n factors p k times b
@@ -30,12 +35,9 @@ pub record Summed (b : ℕ) (p x : ℕ → ℤ) (n : ℕ) (s : ℤ) : Type 0 whe
   pub is : s ≡ sumZ n (λ k. p k *ℤ x k)
   pub small : natAbs (sumZ n (λ k. p k *ℤ x k)) ≤ total n (λ k. natAbs (p k)) * b
 
--- for Y[k], and for output j
+-- for Y[k]
 abbrev pub WindowSummed : ℕ → List ℤ → ℕ → ℕ → ℤ → Type 0
 WindowSummed S X k = Summed (2 ^ 15) (λ j. prototypeAt S (k + 2 * S * j)) (λ j. getD X (k + 2 * S * j) (pos 0))
-
-abbrev pub OutputSummed : ℕ → List (List ℤ) → ℕ → ℕ → ℤ → Type 0
-OutputSummed S vs j = Summed (2 ^ 31) (λ b. prototypeAt S (b * S + j)) (λ b. vectorAt vs b (vectorPlace S j b))
 
 pub summed-none : (b : ℕ) (p x : ℕ → ℤ) → Summed b p x 0 (pos 0)
 unfolding sumZ total
@@ -79,27 +81,13 @@ module _ {S : ℕ} (k j index : ℕ) (b : Bands S) (e : index ≡ k + 2 * S * j)
   pub window-step : index + 2 * S ≡ k + 2 * S * (j + 1)
   window-step = for-bands (λ s. index ≡ k + 2 * s * j → index + 2 * s ≡ k + 2 * s * (j + 1)) b (λ q. omega arith) (λ q. omega arith) e
 
--- ---- an output's index: j, S + j, .. below 10 S, which are ten
-module _ {S : ℕ} (j n index : ℕ) (b : Bands S) (e : index ≡ n * S + j) where
-  pub block-more : index < 10 * S → n < 10
-  block-more = for-bands (λ s. index ≡ n * s + j → index < 10 * s → n < 10) b (λ q h. omega arith) (λ q h. omega arith) e
-
-  pub block-done : j < S → 10 * S ≤ index → 10 ≤ n
-  block-done = for-bands (λ s. index ≡ n * s + j → j < s → 10 * s ≤ index → 10 ≤ n) b (λ q l h. omega arith) (λ q l h. omega arith) e
-
-  pub block-step : index + S ≡ (n + 1) * S + j
-  block-step = for-bands (λ s. index ≡ n * s + j → index + s ≡ (n + 1) * s + j) b (λ q. omega arith) (λ q. omega arith) e
-
 -- ---- what is read is within its type's range
 pub read-small : (w : Width) (z : ℤ) → mag z < 2 ^ hbits w → natAbs z ≤ 2 ^ hbits w
 read-small w z h = abs-sfits {w = w} {z = z} (record { sfits = h })
 
--- ---- what the sums' bounds give: Y is within 400000000, and the rounding of an output fits an i64
+-- ---- what the sums' bounds give: Y is within 400000000
 pub window-small : (z : ℤ) → natAbs z ≤ 400000000 * 2 ^ 15 → natAbs (floorDiv z (2 ^ 15)) ≤ 400000000
 window-small z h = natAbs-floor z (2 ^ 15) 400000000 (lit≤ tt) h
-
-pub half-minus-fits : (m : ℕ) (z : ℤ) → m ≤ 2 ^ 37 → natAbs z ≤ 800000000 * 2 ^ 31 → SFits w64 (pos m -ℤ z)
-half-minus-fits m z h k = difference-fits w64 (pos m) z h k (lit≤ tt)
 
 -- ---- one place more of which something holds
 pub all-next : (P : ℕ → Type 0) (k : ℕ) → ((i : ℕ) → i < k → P i) → P k → (i : ℕ) → i < k + 1 → P i
@@ -109,13 +97,95 @@ all-next P k h p i l = go (ℕ-discrete i k)
     go (yes e) = subst P (sym e) p
     go (no ne) = h i (omega arith)
 
--- ---- the rounding, by its number of bits
+-- ---- an output's sum with one vector more: what it is, and its bound
+sum-fits-64 : (n : ℕ) (z : ℤ) → n ≤ 10 → natAbs z ≤ n * termBound → SFits w64 z
+sum-fits-64 n z h k = within-fits w64 {b = 10 * termBound} z (le-trans k (mul-le-mul-right termBound h)) (lit< tt)
+
+module _ (S : ℕ) (vs : List (List ℤ)) (j b : ℕ) (s y z : ℤ) (l : natAbs (prototypeAt S (b * S + j)) ≤ 320000000) (hz : mag z < 2 ^ 31)
+    (es : s ≡ sumZ b (sampleTerm S vs j)) (ez : z ≡ vectorAt vs b (vectorPlace S j b)) (h : natAbs s ≤ b * termBound) where
+  pub more-is : mag y < 2 ^ 31 → y ≡ prototypeAt S (b * S + j)
+      → s +ℤ toZ w32 (ofZ w32 y) *ℤ toZ w32 (ofZ w32 z) ≡ sumZ (b + 1) (sampleTerm S vs j)
+  more-is hy ey = next-sum b (λ k. prototypeAt S (k * S + j)) (λ k. vectorAt vs k (vectorPlace S j k)) s y z hy hz es ey ez
+
+  term : natAbs (sampleTerm S vs j b) ≤ termBound
+  term =
+      natAbs-*-le (prototypeAt S (b * S + j)) (vectorAt vs b (vectorPlace S j b)) l
+      (subst (λ (v : ℤ). natAbs v ≤ 2 ^ 31) ez (read-small w32 z hz))
+
+  pub more-small : natAbs (sumZ (b + 1) (sampleTerm S vs j)) ≤ (b + 1) * termBound
+  unfolding sumZ
+  more-small =
+      rw (add-one b)
+      (le-trans (natAbs-+ (sumZ b (sampleTerm S vs j)) (sampleTerm S vs j b))
+      (le-trans (add-le-add (subst (λ (v : ℤ). natAbs v ≤ b * termBound) es h) term) (le-of-eq (sym (suc-mul b termBound)))))
+
+-- an entry of the sums so far, as the machine reads it
+pub read-sum : (n : ℕ) (xs : List ℤ) → n ≤ 10 → Within (n * termBound) xs → (i : ℕ) → toZ w64 (ofZ w64 (getD xs i (pos 0))) ≡ getD xs i (pos 0)
+read-sum n xs h p i = toZ-ofZ (sum-fits-64 n (getD xs i (pos 0)) h (p i))
+
+-- the sum with one vector more
+pub more-fits : (b : ℕ) (y z : ℤ) → b < 10 → y ≡ z → natAbs z ≤ (b + 1) * termBound → SFits w64 y
+more-fits b y z h e k = sum-fits-64 (b + 1) y (omega arith) (subst (λ (v : ℤ). natAbs v ≤ (b + 1) * termBound) (sym e) k)
+
+-- ---- the rounding: the sum negated, divided and with 1 added fits, and half of it is the definition's
+pub negated-sum : (z : ℤ) → natAbs z ≤ 10 * termBound → SFits w64 (pos 0 -ℤ z)
+negated-sum z h = difference-fits w64 {a = 0} {b = 10 * termBound} (pos 0) z (lit≤ tt) h (lit< tt)
+
+-- m is the divisor
+module _ (z : ℤ) (m : ℕ) (l : 10 * termBound ≤ 100000000 * m) (p : 0 < m) (h : natAbs z ≤ 10 * termBound) where
+  divided-small : natAbs (floorDiv (pos 0 -ℤ z) m) ≤ 100000000
+  divided-small =
+      let q : natAbs (pos 0 -ℤ z) ≤ natAbs z = omega (arith, natAbs-- (pos 0) z) in
+      natAbs-floor (pos 0 -ℤ z) m 100000000 p (le-trans q (le-trans h l))
+
+  pub divided-fits : SFits w32 (floorDiv (pos 0 -ℤ z) m)
+  divided-fits = within-fits w32 (floorDiv (pos 0 -ℤ z) m) divided-small (lit< tt)
+
+  pub one-more-fits : SFits w32 (floorDiv (pos 0 -ℤ z) m +ℤ pos 1)
+  one-more-fits = sum-fits w32 {a = 100000000} {b = 1} (floorDiv (pos 0 -ℤ z) m) (pos 1) divided-small (lit≤ tt) (lit< tt)
+
+  half-small : natAbs (floorDiv (floorDiv (pos 0 -ℤ z) m +ℤ pos 1) 2) ≤ 100000000
+  half-small =
+      natAbs-floor (floorDiv (pos 0 -ℤ z) m +ℤ pos 1) 2 100000000 (lit< tt)
+      (le-trans (natAbs-+ (floorDiv (pos 0 -ℤ z) m) (pos 1)) (le-trans (add-le-add divided-small (le-refl 1)) (lit≤ tt)))
+
+  pub half-fits : SFits w64 (floorDiv (floorDiv (pos 0 -ℤ z) m +ℤ pos 1) 2)
+  half-fits = within-fits w64 (floorDiv (floorDiv (pos 0 -ℤ z) m +ℤ pos 1) 2) half-small (lit< tt)
+
+sub-lt : (a b : ℕ) → a < b → subℕ a b ≡ negsuc (b - suc a)
+sub-lt a b h = rw (lt-ltb a b h)
+
+-- half of 1 more than x ÷ m is x + m over 2 m, rounded down; n is 2 m
+module _ (m n : ℕ) (up : (a : ℕ) → (a / m + 1) / 2 ≡ (a + m) / n) (first : (a : ℕ) → a < m → (a / m ≡ 0) × ((m - suc a) / n ≡ 0))
+    (past : (a : ℕ) → m ≤ a → (1 < suc (a / m)) × ((suc (a / m) - 2) / 2 ≡ (suc a - suc m) / n)) where
+  half-up : (x : ℤ) → floorDiv (floorDiv x m +ℤ pos 1) 2 ≡ floorDiv (x +ℤ pos m) n
+  half-up (pos a) = ap pos (up a)
+  half-up (negsuc a) = go (ltb a m) refl
+    where
+      go : (t : Bool) → ltb a m ≡ t → floorDiv (subℕ 1 (suc (a / m))) 2 ≡ floorDiv (subℕ m (suc a)) n
+      go true e =
+          let h = ltb-true a m e in
+          ap (λ (q : ℕ). floorDiv (subℕ 1 (suc q)) 2) (first a h .0) ∙ ap pos (sym (first a h .1))
+          ∙ ap (λ (z : ℤ). floorDiv z n) (sym (sub-of-le m (suc a) h))
+      go false e =
+          let h = ltb-false a m e in
+          ap (λ (z : ℤ). floorDiv z 2) (sub-lt 1 (suc (a / m)) (past a h .0)) ∙ ap negsuc (past a h .1)
+          ∙ ap (λ (z : ℤ). floorDiv z n) (sym (sub-lt m (suc a) (omega arith)))
+
+  half-less : (z : ℤ) → floorDiv (floorDiv (pos 0 -ℤ z) m +ℤ pos 1) 2 ≡ floorDiv (pos m -ℤ z) n
+  half-less z =
+      half-up (pos 0 -ℤ z) ∙ ap (λ (y : ℤ). floorDiv y n) (ap (λ (y : ℤ). y +ℤ pos m) (+ℤ-idl (negℤ z)) ∙ +ℤ-comm (negℤ z) (pos m))
+
 rounded-bits : (S h : ℕ) (sum : ℤ) → h ≡ roundingBits S → clampZ w16 (floorDiv (pos (2 ^ (h - 1)) -ℤ sum) (2 ^ h)) ≡ rounded S sum
 unfolding rounded
 rounded-bits S h sum e = ap (λ (n : ℕ). clampZ w16 (floorDiv (pos (2 ^ (n - 1)) -ℤ sum) (2 ^ n))) e
 
-pub rounded-4 : (S : ℕ) (sum : ℤ) → S ≡ 4 → clampZ w16 (floorDiv (pos (2 ^ 37) -ℤ sum) (2 ^ 38)) ≡ rounded S sum
-rounded-4 S sum e = rounded-bits S 38 sum (rw (eq-eqb S 4 e))
+pub rounded-4 : (S : ℕ) (sum : ℤ) → S ≡ 4 → clampZ w16 (floorDiv (floorDiv (pos 0 -ℤ sum) (2 ^ 37) +ℤ pos 1) 2) ≡ rounded S sum
+rounded-4 S sum e =
+    ap (clampZ w16) (half-less (2 ^ 37) (2 ^ 38) (λ a. omega arith) (λ a h. (omega arith, omega arith)) (λ a h. (omega arith, omega arith)) sum)
+    ∙ rounded-bits S 38 sum (rw (eq-eqb S 4 e))
 
-pub rounded-8 : (S : ℕ) (sum : ℤ) → (S ≡ 4 → ⊥) → clampZ w16 (floorDiv (pos (2 ^ 36) -ℤ sum) (2 ^ 37)) ≡ rounded S sum
-rounded-8 S sum ne = rounded-bits S 37 sum (rw (ne-eqb S 4 ne))
+pub rounded-8 : (S : ℕ) (sum : ℤ) → (S ≡ 4 → ⊥) → clampZ w16 (floorDiv (floorDiv (pos 0 -ℤ sum) (2 ^ 36) +ℤ pos 1) 2) ≡ rounded S sum
+rounded-8 S sum ne =
+    ap (clampZ w16) (half-less (2 ^ 36) (2 ^ 37) (λ a. omega arith) (λ a h. (omega arith, omega arith)) (λ a h. (omega arith, omega arith)) sum)
+    ∙ rounded-bits S 37 sum (rw (ne-eqb S 4 ne))

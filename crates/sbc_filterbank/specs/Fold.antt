@@ -1,6 +1,7 @@
 -- How the code takes the sums in parts, for the contracts of its inner functions alone: entries whose cosines are equal or opposite are
 -- added or subtracted first, and the history moves in two steps. Nothing public cites this.
 use Prim.Native.Nat.{ℕ, _+_, _*_, _-_, _/_, _%_, _^_, _≤_}
+use mathlib.Core.Path.{_≡_}
 use mathlib.Core.List.{List, _++_}
 use lib.Dec.{eqb, leb, ltb}
 use lib.ListN.{length, getD}
@@ -9,9 +10,9 @@ use mir.Syntax.{w32}
 use Rattle.laws.specs.Choice.{if_then_else_}
 use Rattle.laws.specs.Lists.{collect, build}
 use Rattle.laws.specs.Integers.{floorDiv, clampZ, Within}
-use Rattle.laws.specs.Sums.{sumZ}
+use Rattle.laws.specs.Sums.{sumZ, upTo}
 use Rattle.sbc_filterbank.specs.Analysis.{analysisCosine}
-use Rattle.sbc_filterbank.specs.Synthesis.{synthesisCosine}
+use Rattle.sbc_filterbank.specs.Synthesis.{synthesisCosine, sampleTerm}
 
 -- ---- the history: f below n, and g from n on
 abbrev pub joinAt : ℕ → (ℕ → ℤ) → (ℕ → ℤ) → ℕ → ℤ
@@ -103,3 +104,11 @@ signedRow S rows r = rowSign S r *ℤ getD rows (rowSource S r) (pos 0)
 -- V[r] from the rows
 unfoldable pub rowValue : ℕ → List ℤ → ℕ → ℤ
 rowValue S rows r = clampZ w32 (floorDiv (signedRow S rows r) (2 ^ 30))
+
+-- what a term of an output's sum is within: no tap passes 320000000
+abbrev pub termBound : ℕ
+termBound = 320000000 * 2 ^ 31
+
+-- the S sums of the outputs over the n newest vectors, in an array of eight, and their bound
+abbrev pub OutputSums : ℕ → List (List ℤ) → ℕ → List ℤ → Type 0
+OutputSums S vs n sums = (sums ≡ build 8 (upTo S (λ j. sumZ n (sampleTerm S vs j)))) × (Within (n * termBound) sums)

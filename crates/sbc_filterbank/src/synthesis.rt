@@ -13,9 +13,9 @@ ghost use Rattle.laws.specs.Integers.{Within};
 ghost use Rattle.laws.specs.Sums.{sumZ, upTo, overwrite};
 ghost use Rattle.sbc_tables.specs.Tables.{prototype};
 ghost use Rattle.sbc_filterbank.specs.Subbands.{Bands, bandsOf, padded};
-ghost use Rattle.sbc_filterbank.specs.Synthesis.{modulated, vectorPlace, sampleTerm, rounded, synthesisOutputs};
+ghost use Rattle.sbc_filterbank.specs.Synthesis.{modulated, vectorPlace, rounded, synthesisOutputs};
 ghost use Rattle.sbc_filterbank.specs.Ring.{ring, nextSlot, ringPushed};
-ghost use Rattle.sbc_filterbank.specs.Fold.{Part, pairOf, rowOdd, synthesisRows, rowTerm, rowSum, signedRow, rowValue};
+ghost use Rattle.sbc_filterbank.specs.Fold.{Part, pairOf, rowOdd, synthesisRows, rowTerm, rowSum, signedRow, rowValue, termBound, OutputSums};
 
 // The last ten vectors, in a ring of ten slots; the slot `newest` holds the newest.
 pub struct Synthesis {
@@ -163,63 +163,97 @@ fn push(values: &mut [i32; 160], rows: &[i64; 8], subbands: usize, at: usize)
     }
 }
 
-// The slot of the b-th newest vector.
-fn slot_of(newest: usize, b: usize) -> usize
-    requires { ⌜ (newest < 10) × (b < 10) ⌝ }
-    ensures { λ z. ⌜ z ≡ (newest + b) % 10 ⌝ }
-{
-    let slot = newest + b;
-    if slot < 10 {
-        return slot;
-    }
-    slot - 10
-}
-
-// Where V_b[j], or V_b[S + j] for odd b, stands in the ring.
+// Where V_b[j], or V_b[S + j] for odd b, stands in the ring: as if its slots went on, and back by the ten slots where they end.
 fn place(newest: usize, subbands: usize, j: usize, b: usize) -> usize
     requires { ⌜ (Bands subbands) × (newest < 10) × (j < subbands) × (b < 10) ⌝ }
     ensures { λ z. ⌜ (z ≡ 2 * subbands * ((newest + b) % 10) + vectorPlace subbands j b) × (z < 160) ⌝ }
 {
-    2 * subbands * slot_of(newest, b) + (b % 2 * subbands + j)
-}
-
-// The sum of output j, before it is rounded. The index is stepped and the bound depends on S: then the compiler unrolls the loop into
-// products with constants.
-fn sample_sum(values: &[i32; 160], taps: &[i32], newest: usize, subbands: usize, j: usize) -> i64
-    requires { ⌜ (Bands subbands) × (newest < 10) × (j < subbands) × (now taps ≡ prototype subbands) ⌝ }
-    ensures { λ z. ⌜ (z ≡ sumZ 10 (sampleTerm subbands (ring subbands (now (values .entry)) newest) j)) × (natAbs z ≤ 800000000 * 2 ^ 31) ⌝ }
-{
-    let mut sum = 0i64;
-    let mut b = 0usize;
-    let mut index = j;
-    while index < 10 * subbands {
-        let at = place(newest, subbands, j, b);
-        sum = laws::multiply_add(sum, taps[index], values[at]);
-        b = b + 1;
-        index = index + subbands;
+    let at = 2 * subbands * (newest + b) + (b % 2 * subbands + j);
+    if newest + b < 10 {
+        return at;
     }
-    sum
+    at - 20 * subbands
 }
 
-// The sum divided, rounded to the nearest and clamped.
+// The sums of the outputs over the b newest vectors, with the next vector's terms added.
+fn add_vector(
+    sums: &[i64; 8],
+    values: &[i32; 160],
+    taps: &[i32],
+    newest: usize,
+    subbands: usize,
+    b: usize,
+) -> [i64; 8]
+    requires { ⌜ (Bands subbands) × (newest < 10) × (b < 10) × (now taps ≡ prototype subbands) × (OutputSums subbands (ring subbands (now values) newest) b (now sums)) ⌝ }
+    ensures { λ z. ⌜ OutputSums subbands (ring subbands (now (values .entry)) newest) (b + 1) z ⌝ }
+{
+    let mut more = [0i64; 8];
+    for j in 0..subbands {
+        let at = place(newest, subbands, j, b);
+        more[j] = laws::multiply_add(sums[j], taps[b * subbands + j], values[at]);
+    }
+    more
+}
+
+// The sums of the 8 outputs, before they are rounded. Vector by vector, and with no loop: then the compiler keeps the sums in registers and
+// has one place at a time.
+fn sums8(values: &[i32; 160], taps: &[i32], newest: usize) -> [i64; 8]
+    requires { ⌜ (newest < 10) × (now taps ≡ prototype 8) ⌝ }
+    ensures { λ z. ⌜ OutputSums 8 (ring 8 (now (values .entry)) newest) 10 z ⌝ }
+{
+    let sums = [0i64; 8];
+    let sums = add_vector(&sums, values, taps, newest, 8, 0);
+    let sums = add_vector(&sums, values, taps, newest, 8, 1);
+    let sums = add_vector(&sums, values, taps, newest, 8, 2);
+    let sums = add_vector(&sums, values, taps, newest, 8, 3);
+    let sums = add_vector(&sums, values, taps, newest, 8, 4);
+    let sums = add_vector(&sums, values, taps, newest, 8, 5);
+    let sums = add_vector(&sums, values, taps, newest, 8, 6);
+    let sums = add_vector(&sums, values, taps, newest, 8, 7);
+    let sums = add_vector(&sums, values, taps, newest, 8, 8);
+    let sums = add_vector(&sums, values, taps, newest, 8, 9);
+    sums
+}
+
+// The sums of the 4 outputs.
+fn sums4(values: &[i32; 160], taps: &[i32], newest: usize) -> [i64; 8]
+    requires { ⌜ (newest < 10) × (now taps ≡ prototype 4) ⌝ }
+    ensures { λ z. ⌜ OutputSums 4 (ring 4 (now (values .entry)) newest) 10 z ⌝ }
+{
+    let sums = [0i64; 8];
+    let sums = add_vector(&sums, values, taps, newest, 4, 0);
+    let sums = add_vector(&sums, values, taps, newest, 4, 1);
+    let sums = add_vector(&sums, values, taps, newest, 4, 2);
+    let sums = add_vector(&sums, values, taps, newest, 4, 3);
+    let sums = add_vector(&sums, values, taps, newest, 4, 4);
+    let sums = add_vector(&sums, values, taps, newest, 4, 5);
+    let sums = add_vector(&sums, values, taps, newest, 4, 6);
+    let sums = add_vector(&sums, values, taps, newest, 4, 7);
+    let sums = add_vector(&sums, values, taps, newest, 4, 8);
+    let sums = add_vector(&sums, values, taps, newest, 4, 9);
+    sums
+}
+
+// The sum negated and divided, rounded to the nearest and clamped. Half of the divisor is added as 1 before the last bit goes, and as an
+// i32: then the compiler clamps the outputs together.
 fn round(sum: i64, subbands: usize) -> i16
-    requires { ⌜ natAbs sum ≤ 800000000 * 2 ^ 31 ⌝ }
+    requires { ⌜ natAbs sum ≤ 10 * termBound ⌝ }
     ensures { λ z. ⌜ z ≡ rounded subbands sum ⌝ }
 {
     if subbands == 4 {
-        return laws::clamp_i16((0x20_0000_0000 - sum) >> 38);
+        return laws::clamp_i16(((laws::shift_down(0 - sum, 37) + 1) >> 1) as i64);
     }
-    laws::clamp_i16((0x10_0000_0000 - sum) >> 37)
+    laws::clamp_i16(((laws::shift_down(0 - sum, 36) + 1) >> 1) as i64)
 }
 
 // The S outputs.
-fn output(values: &[i32; 160], taps: &[i32], newest: usize, subbands: usize) -> [i16; 8]
-    requires { ⌜ (Bands subbands) × (newest < 10) × (now taps ≡ prototype subbands) ⌝ }
-    ensures { λ z. ⌜ z ≡ padded (synthesisOutputs subbands (ring subbands (now (values .entry)) newest)) ⌝ }
+fn output(sums: &[i64; 8], subbands: usize) -> [i16; 8]
+    requires { ⌜ (Bands subbands) × (Within (10 * termBound) (now sums)) ⌝ }
+    ensures { λ z. ⌜ z ≡ build 8 (upTo subbands (λ j. rounded subbands (getD (now (sums .entry)) j (pos 0)))) ⌝ }
 {
     let mut out = [0i16; 8];
     for j in 0..subbands {
-        out[j] = round(sample_sum(values, taps, newest, subbands, j), subbands);
+        out[j] = round(sums[j], subbands);
     }
     out
 }
@@ -236,7 +270,8 @@ pub fn synthesize8(values: &mut [i32; 160], input: &[i32; 8], newest: usize) -> 
     let differences = pair_all(input, 8, 1);
     let rows = row_all(&SYNTHESIS_8_ROWS, &sums, &differences, 8);
     push(values, &rows, 8, 16 * slot);
-    output(values, &sbc_tables::PROTOTYPE_8, slot, 8)
+    let totals = sums8(values, &sbc_tables::PROTOTYPE_8, slot);
+    output(&totals, 8)
 }
 
 // One block of synthesis with 4 subbands: the first 4 places of `input` count, and the last 4 outputs are 0.
@@ -250,7 +285,8 @@ pub fn synthesize4(values: &mut [i32; 160], input: &[i32; 8], newest: usize) -> 
     let differences = pair_all(input, 4, 1);
     let rows = row_all(&SYNTHESIS_4_ROWS, &sums, &differences, 4);
     push(values, &rows, 4, 8 * slot);
-    output(values, &sbc_tables::PROTOTYPE_4, slot, 4)
+    let totals = sums4(values, &sbc_tables::PROTOTYPE_4, slot);
+    output(&totals, 4)
 }
 
 // One block of synthesis. Any number of subbands but 4 counts as 8.

@@ -1,9 +1,12 @@
--- The frame that a seek resumes from does not begin behind the position sought.
+-- The frame that a seek resumes from does not begin behind the position sought, and at most 9 blocks and a frame before it.
 -- Assumes nothing.
-use Prim.Native.Nat.{ℕ, _+_, _-_, _*_, _/_, _≤_}
+use Prim.Native.Nat.{ℕ, _+_, _-_, _*_, _/_, _≤_, _<_}
 use mathlib.Core.Path.{_≡_, sym}
-use native.Mathlib.Nat.{le-trans, mul-assoc, mul-le-mul, le-refl, div-mul-le-self}
+use native.Mathlib.Nat.{le-trans, mul-assoc, add-mul, mul-le-mul, le-refl, div-mul-le-self, lt-div-mul-add}
 use native.Mathlib.Omega.{arith}
+use mathlib.Core.Bool.{true}
+use Rattle.sbc_parameters.specs.Parameters.{accepted}
+use Rattle.sbc_parameters.proofs.Accepted.{ranges}
 use Rattle.sbc_parameters.specs.Sizes.{samplesPerChannel}
 use Rattle.sbc_parameters.specs.Seek.{seekFrame, seekSkip}
 use Rattle.sbc_parameters.specs.declared.SbcParameters.{SbcParameters}
@@ -21,3 +24,18 @@ seek-frame-le p position =
 pub seek-skip : (p : SbcParameters) (position : ℕ) → seekFrame p position * samplesPerChannel p + seekSkip p position ≡ position
 unfolding seekSkip
 seek-skip p position = omega (arith, seek-frame-le p position)
+
+-- which is less than 9 blocks and a frame
+pub seek-skip-lt : (p : SbcParameters) (position : ℕ) → accepted p ≡ true → seekSkip p position < 200
+unfolding seekSkip seekFrame samplesPerChannel
+seek-skip-lt p position a =
+    let r = ranges p a in
+    let S = p .subbands in
+    let B = p .blocks in
+    let block = position / S in
+    let frame = (block - 9) / B in
+    let near : block - 9 < frame * B + B = lt-div-mul-add {a = block - 9} (omega (arith, r .blocks-low)) in
+    let inside : position < block * S + S = lt-div-mul-add {a = position} (omega (arith, r .subbands-low)) in
+    let up : (block + 1) * S ≤ (frame * B + (B + 9)) * S = mul-le-mul {n₁ = block + 1} {n₂ = frame * B + (B + 9)} (omega (arith, near)) (le-refl S) in
+    let most : (B + 9) * S ≤ 25 * 8 = mul-le-mul {n₁ = B + 9} {n₂ = 25} (omega (arith, r .blocks-high)) (r .subbands-high) in
+    omega (arith, inside, up, most, add-mul block 1 S, add-mul (frame * B) (B + 9) S, mul-assoc frame B S)

@@ -1,40 +1,47 @@
 -- `sbc_filterbank::synthesis::output` meets its contract. The loop's invariant: the places before j hold the definition's outputs, and the
 -- others 0.
 -- Assumes nothing.
-use Prim.Native.Nat.{_-_, _≤_, _^_, _*_}
+use Prim.Native.Nat.{_*_, _-_, _≤_}
 use mathlib.Core.Path.{_≡_, _∙_, sym, ap, subst}
+use native.Mathlib.Nat.{le-refl}
 use native.Mathlib.Omega.{arith}
-use lib.IntN.{ℤ, natAbs}
+use lib.IntN.{ℤ, pos, natAbs}
+use lib.ListN.{getD}
 use mir.Syntax.{w16, w64}
 use mir.Val.{toZ, ofZ}
-use mir.Facts.{toZ-ofZ}
 use Rattle.laws.specs.Lists.{build}
-use Rattle.laws.specs.Sums.{sumZ, upTo}
+use Rattle.laws.specs.Sums.{upTo}
 use Rattle.laws.proofs.Arrays.{fill-none, filled, stored}
-use Rattle.sbc_filterbank.specs.Synthesis.{sampleTerm, rounded, synthesisOutputs}
-use Rattle.sbc_filterbank.specs.Ring.{ring}
-use Rattle.sbc_filterbank.proofs.Bands.{bands-le, padded-is}
+use Rattle.sbc_filterbank.specs.Synthesis.{rounded}
+use Rattle.sbc_filterbank.specs.Fold.{termBound}
+use Rattle.sbc_filterbank.proofs.Bands.{bands-le}
+use Rattle.sbc_filterbank.proofs.Bounds.{read-sum}
 use Rattle.sbc_filterbank.proofs.synthesis.output.Statement.{statement}
 use Rattle.sbc_filterbank.proofs.synthesis.output.Tie as tie
 
 abbrev Inv-loop : tie.InvT-loop
-Inv-loop values taps newest subbands out₀ j₀ out j =
-    (j ≤ subbands) × (out ≡ build 8 (upTo j (λ n. rounded subbands (sumZ 10 (sampleTerm subbands (ring subbands values newest) n)))))
+Inv-loop sums subbands out₀ j₀ out j = (j ≤ subbands) × (out ≡ build 8 (upTo j (λ n. rounded subbands (getD sums n (pos 0)))))
 
 abbrev μ-loop : tie.MeasureT-loop
-μ-loop values taps newest subbands out₀ j₀ out j = subbands - j
+μ-loop sums subbands out₀ j₀ out j = subbands - j
 
 loop-holds : tie.Need-loop-holds Inv-loop μ-loop
 loop-holds c = (omega arith, fill-none 8 _)
 
-sample-sum-requires : tie.Need-sample-sum-requires Inv-loop μ-loop
-sample-sum-requires c κs = let start = c .before .before in (start .pre .0, start .pre .1, c .loop-test .taken, start .pre .2)
+mul-round : tie.Need-mul-round Inv-loop μ-loop
+mul-round c = omega (arith, bands-le (c .before .before .pre .0))
 
-sum : (c : tie.After-sample-sum Inv-loop μ-loop) → toZ w64 (ofZ w64 (c .sample-sum .result)) ≡ c .sample-sum .result
-sum c = toZ-ofZ (record { sfits = c .sample-sum .ok })
+element-copy-out-round : tie.Need-element-copy-out-round Inv-loop μ-loop
+element-copy-out-round c = omega (arith, bands-le (c .before .before .pre .0))
+
+sum : (c : tie.After-round-arg Inv-loop μ-loop)
+    → let xs = c .before .before .before .args .sums .now in let j = c .before .before .loop .j in
+    toZ w64 (ofZ w64 (getD xs j (pos 0))) ≡ getD xs j (pos 0)
+sum c = let start = c .before .before .before in read-sum 10 (start .args .sums .now) (le-refl 10) (start .pre .1) (c .before .before .loop .j)
 
 round-requires : tie.Need-round-requires Inv-loop μ-loop
-round-requires c κs = subst (λ (z : ℤ). natAbs z ≤ 800000000 * 2 ^ 31) (sym (sum c)) (c .sample-sum .ensures .1)
+round-requires c κs =
+    subst (λ (z : ℤ). natAbs z ≤ 10 * termBound) (sym (sum c)) (c .before .before .before .pre .1 (c .before .before .loop .j))
 
 mul-out : tie.Need-mul-out Inv-loop μ-loop
 mul-out c = omega (arith, bands-le (c .before .before .before .before .pre .0))
@@ -53,12 +60,11 @@ loop-again c =
     let start = c .before .before .before .before in (
       omega arith,
       stored w16 8 _ _ _ _ (record { sfits = c .round .ok }) (omega (arith, bands-le (start .pre .0))) (c .before .before .before .loop .inv .1)
-          (c .round .ensures ∙ ap (rounded (start .args .subbands)) (sum (c .before) ∙ c .before .sample-sum .ensures .0)),
+          (c .round .ensures ∙ ap (rounded (start .args .subbands)) (sum (c .before))),
     )
 
 returns : tie.Need-returns Inv-loop μ-loop
-unfolding synthesisOutputs
-returns c = filled 8 _ _ _ _ (omega arith) (omega arith) (c .before .loop .inv .1) ∙ padded-is _ _ (bands-le (c .before .before .pre .0))
+returns c = filled 8 _ _ _ _ (omega arith) (omega arith) (c .before .loop .inv .1)
 
 pub output-spec : {M : Type 1} → statement M
 output-spec =
@@ -67,7 +73,8 @@ output-spec =
     Inv-loop
     μ-loop
     loop-holds
-    sample-sum-requires
+    mul-round
+    element-copy-out-round
     round-requires
     mul-out
     array-set-from-out

@@ -1,55 +1,64 @@
--- `sbc_filterbank::synthesis::place` meets its contract: no product or sum passes the place, which is below 160.
+-- `sbc_filterbank::synthesis::place` meets its contract: the place as if the ring went on is below 320, and past the tenth slot it is 20 S
+-- too far.
 -- Assumes nothing.
-use Prim.Native.Nat.{ℕ, _+_, _*_, _%_, _<_}
-use mathlib.Core.Path.{ap₂}
 use native.Mathlib.Omega.{arith}
 use Rattle.sbc_filterbank.proofs.Bands.{bands-le}
-use Rattle.sbc_filterbank.proofs.Ring.{place-below}
-use Rattle.sbc_filterbank.proofs.Blocks.{place-is, row-below}
+use Rattle.sbc_filterbank.proofs.Blocks.{place-ahead, place-first, place-back, place-past}
 use borrow.Author.Needs.{needs}
 use Rattle.sbc_filterbank.proofs.synthesis.place.Statement.{statement}
 use Rattle.sbc_filterbank.proofs.synthesis.place.Tie as tie
 
-within : (c : tie.After-slot-of)
-    → let start = c .before in
-    2 * start .args .subbands * c .slot-of .result + (start .args .b % 2 * start .args .subbands + start .args .j) < 160
-within c =
-    let start = c .before in
-    place-below (c .slot-of .result) _ (start .pre .0) (omega (arith, c .slot-of .ensures))
-    (row-below (start .args .b) (start .args .j) (start .pre .2))
+mul-at : tie.Need-mul-at
+mul-at c = omega (arith, bands-le (c .pre .0))
 
-mul-result : tie.Need-mul-result
-mul-result c = omega (arith, bands-le (c .pre .0))
+add-at : tie.Need-add-at
+add-at c = search needs
 
-slot-of-requires : tie.Need-slot-of-requires
-slot-of-requires c κs = search needs
+mul-at-2 : tie.Need-mul-at-2
+mul-at-2 c = omega (arith, place-ahead (c .args .newest) (c .args .j) (c .args .b) (c .pre .0) (c .pre .1) (c .pre .2) (c .pre .3))
 
-mul-result-2 : tie.Need-mul-result-2
-mul-result-2 c = omega (arith, within c)
+mul-at-3 : tie.Need-mul-at-3
+mul-at-3 c = omega (arith, place-ahead (c .args .newest) (c .args .j) (c .args .b) (c .pre .0) (c .pre .1) (c .pre .2) (c .pre .3))
 
-mul-result-3 : tie.Need-mul-result-3
-mul-result-3 c = omega (arith, within c)
+add-at-2 : tie.Need-add-at-2
+add-at-2 c = omega (arith, place-ahead (c .args .newest) (c .args .j) (c .args .b) (c .pre .0) (c .pre .1) (c .pre .2) (c .pre .3))
 
-add-result : tie.Need-add-result
-add-result c = omega (arith, within c)
+add-at-3 : tie.Need-add-at-3
+add-at-3 c = omega (arith, place-ahead (c .args .newest) (c .args .j) (c .args .b) (c .pre .0) (c .pre .1) (c .pre .2) (c .pre .3))
 
-add-result-2 : tie.Need-add-result-2
-add-result-2 c = omega (arith, within c)
+add-if1 : tie.Need-add-if1
+add-if1 c = search needs
 
 returns : tie.Need-returns
 returns c =
     let start = c .before in
-    let place = place-is (start .args .subbands) (start .args .j) (start .args .b) in
-    (ap₂ (λ (n m : ℕ). 2 * start .args .subbands * n + m) (c .slot-of .ensures) place, within c)
+    place-first (start .args .newest) (start .args .j) (start .args .b) (start .pre .0) (start .pre .2) (c .if1 .taken)
+
+mul-result : tie.Need-mul-result
+mul-result c = omega (arith, bands-le (c .before .pre .0))
+
+sub-result : tie.Need-sub-result
+sub-result c =
+    let start = c .before in
+    place-past (start .args .newest) (start .args .j) (start .args .b) (start .pre .0) (c .if1 .left)
+
+returns-2 : tie.Need-returns-2
+returns-2 c =
+    let start = c .before in
+    place-back (start .args .newest) (start .args .j) (start .args .b) (start .pre .0) (start .pre .1) (start .pre .2) (start .pre .3) (c .if1 .left)
 
 pub place-spec : {M : Type 1} → statement M
 place-spec =
     tie.close
     (tie.spec
+    mul-at
+    add-at
+    mul-at-2
+    mul-at-3
+    add-at-2
+    add-at-3
+    add-if1
+    returns
     mul-result
-    slot-of-requires
-    mul-result-2
-    mul-result-3
-    add-result
-    add-result-2
-    returns)
+    sub-result
+    returns-2)

@@ -51,21 +51,26 @@ push-requires c κs =
           (pairs-within 4 1 (start .args .input .now) _ (start .pre) (pairs .pair-all2 .ensures)) (c .before .before .row-all .ensures),
     )
 
-slice-aggregate-output : tie.Need-slice-aggregate-output
-slice-aggregate-output c = search needs
+slice-aggregate-sums4 : tie.Need-slice-aggregate-sums4
+slice-aggregate-sums4 c = search needs
+
+sums4-requires : tie.Need-sums4-requires
+unfolding prototype prototype4
+sums4-requires c κs =
+    (omega (arith, c .before .before .before .before .before .before .before .before .before .before .before .advance .ensures), refl)
 
 output-requires : tie.Need-output-requires
-unfolding prototype prototype4
-output-requires c κs =
-    (inl refl, omega (arith, c .before .before .before .before .before .before .before .before .before .before .before .advance .ensures), refl)
+output-requires c κs = (inl refl, c .before .sums4 .ensures .1)
 
 returns : tie.Need-returns
 returns c =
-    let pushed = c .before .before .before in
+    let summed = c .before .before in
+    let pushed = summed .before .before .before in
     let pairs = pushed .before .before .before .before .before .before .before in
     let start = pairs .before .before .before in
-    block-of (start .args .input .now) _ _ _ _ _ _ _ _ (inl refl) (pairs .before .pair-all .ensures) (pairs .pair-all2 .ensures)
-    (pushed .before .before .before .row-all .ensures) (pairs .before .before .advance .ensures) (pushed .push .ensures) (c .output .ensures)
+    block-of (start .args .input .now) _ _ _ _ _ _ _ _ _ (inl refl) (pairs .before .pair-all .ensures) (pairs .pair-all2 .ensures)
+    (pushed .before .before .before .row-all .ensures) (pairs .before .before .advance .ensures) (pushed .push .ensures)
+    (summed .sums4 .ensures) (c .output .ensures)
 
 pub synthesize4-spec : {M : Type 1} → statement M
 synthesize4-spec =
@@ -78,6 +83,7 @@ synthesize4-spec =
     row-all-requires
     mul-push
     push-requires
-    slice-aggregate-output
+    slice-aggregate-sums4
+    sums4-requires
     output-requires
     returns)

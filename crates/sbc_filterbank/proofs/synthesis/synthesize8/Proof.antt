@@ -51,21 +51,26 @@ push-requires c κs =
           (pairs-within 8 1 (start .args .input .now) _ (start .pre) (pairs .pair-all2 .ensures)) (c .before .before .row-all .ensures),
     )
 
-slice-aggregate-output : tie.Need-slice-aggregate-output
-slice-aggregate-output c = search needs
+slice-aggregate-sums8 : tie.Need-slice-aggregate-sums8
+slice-aggregate-sums8 c = search needs
+
+sums8-requires : tie.Need-sums8-requires
+unfolding prototype prototype8
+sums8-requires c κs =
+    (omega (arith, c .before .before .before .before .before .before .before .before .before .before .before .advance .ensures), refl)
 
 output-requires : tie.Need-output-requires
-unfolding prototype prototype8
-output-requires c κs =
-    (inr refl, omega (arith, c .before .before .before .before .before .before .before .before .before .before .before .advance .ensures), refl)
+output-requires c κs = (inr refl, c .before .sums8 .ensures .1)
 
 returns : tie.Need-returns
 returns c =
-    let pushed = c .before .before .before in
+    let summed = c .before .before in
+    let pushed = summed .before .before .before in
     let pairs = pushed .before .before .before .before .before .before .before in
     let start = pairs .before .before .before in
-    block-of (start .args .input .now) _ _ _ _ _ _ _ _ (inr refl) (pairs .before .pair-all .ensures) (pairs .pair-all2 .ensures)
-    (pushed .before .before .before .row-all .ensures) (pairs .before .before .advance .ensures) (pushed .push .ensures) (c .output .ensures)
+    block-of (start .args .input .now) _ _ _ _ _ _ _ _ _ (inr refl) (pairs .before .pair-all .ensures) (pairs .pair-all2 .ensures)
+    (pushed .before .before .before .row-all .ensures) (pairs .before .before .advance .ensures) (pushed .push .ensures)
+    (summed .sums8 .ensures) (c .output .ensures)
 
 pub synthesize8-spec : {M : Type 1} → statement M
 synthesize8-spec =
@@ -78,6 +83,7 @@ synthesize8-spec =
     row-all-requires
     mul-push
     push-requires
-    slice-aggregate-output
+    slice-aggregate-sums8
+    sums8-requires
     output-requires
     returns)

@@ -1,0 +1,45 @@
+-- A refusal leaves all unchanged: the encoder or decoder, and the output.
+-- Assumes nothing.
+use Prim.Native.Nat.{ℕ}
+use mathlib.Core.Path.{_≡_, refl}
+use mathlib.Core.List.{List}
+use native.Mathlib.Omega.{arith}
+use lib.IntN.{ℤ}
+use Rattle.laws.specs.Answers.{refuses}
+use Rattle.sbc.specs.Answers.{progressOf, addProgress}
+use Rattle.sbc.specs.Encode.{encodeFrames, encode}
+use Rattle.sbc.specs.Decode.{decodeAll, decode}
+use Rattle.sbc.specs.declared.SbcEncoder.{SbcEncoder}
+use Rattle.sbc.specs.declared.SbcDecoder.{SbcDecoder}
+use Rattle.sbc.proofs.Answering.{gives-refuses, refused-none}
+use Rattle.sbc.proofs.Taking.{length-some, decode-induction}
+use Rattle.sbc.proofs.Writing.{encode-cases}
+
+-- ---- decode
+
+-- a call that consumes nothing changes nothing
+pub idle : (d : SbcDecoder) (input : List ℕ) (output : List ℤ)
+    → let r = decodeAll d input output in r .progress .consumed ≡ 0 → (r .decoder ≡ d) × (r .output ≡ output)
+unfolding progressOf addProgress
+idle =
+    decode-induction (λ d input output r. r .progress .consumed ≡ 0 → (r .decoder ≡ d) × (r .output ≡ output))
+    (λ d input output s e z. (refl, refl))
+    (λ d input output p a fits room rest z. absurd (omega (arith, length-some p)))
+
+-- a refused decode call leaves the decoder and the output
+pub decode-refused : (d : SbcDecoder) (input : List ℕ) (output : List ℤ) (n : ℕ) → decode d input output .answer ≡ refuses n
+    → (decode d input output .decoder ≡ d) × (decode d input output .output ≡ output)
+unfolding decode
+decode-refused d input output n q =
+    let r = decodeAll d input output in
+    idle d input output (refused-none (r .progress) (r .ending) n q)
+
+-- ---- encode
+
+-- a refused encode call leaves the encoder and the output
+pub encode-refused : (e : SbcEncoder) (pcm : List ℤ) (output : List ℕ) (n : ℕ) → encode e pcm output .answer ≡ refuses n
+    → (encode e pcm output .encoder ≡ e) × (encode e pcm output .output ≡ output)
+unfolding encodeFrames
+encode-refused e pcm output n =
+    encode-cases (λ r. r .answer ≡ refuses n → (r .encoder ≡ e) × (r .output ≡ output)) e pcm output
+    (λ a q. (refl, refl)) (λ a l q. (refl, refl)) (λ a l q. absurd (gives-refuses _ n q))

@@ -1,0 +1,5 @@
+pub mod Answers
+pub mod Encode
+pub mod Decode
+pub mod Seek
+pub mod TwoLanguages

@@ -1,0 +1,121 @@
+-- Two languages: in dual channel, what one channel's listener hears, and every answer, depends on that channel's samples only.
+-- From document 01, "The words of demand 3".
+use Prim.Native.Nat.{ℕ, _*_, _%_, _<_}
+use mathlib.Core.Path.{_≡_}
+use mathlib.Core.Bool.{true}
+use mathlib.Core.List.{List, [], _∷_, _++_}
+use lib.IntN.{ℤ, pos}
+use lib.ListN.{length, getD, take, drop}
+use Rattle.laws.specs.Answers.{Told, gives}
+use Rattle.sbc_parameters.specs.Parameters.{accepted}
+use Rattle.sbc_parameters.specs.Sizes.{frameLength, frameSamples}
+use Rattle.sbc_parameters.specs.declared.SbcParameters.{SbcParameters}
+use Rattle.sbc_parameters.specs.declared.SbcChannelMode.the-variants.{DualChannel}
+use Rattle.sbc.specs.Answers.{progressOf, wholeFrames}
+use Rattle.sbc.specs.Encode.{newEncoder, encode}
+use Rattle.sbc.specs.Decode.{newDecoder, finish, decode}
+use Rattle.sbc.specs.declared.Progress.{Progress}
+use Rattle.sbc.specs.declared.SbcEncoder.{SbcEncoder}
+use Rattle.sbc.specs.declared.SbcDecoder.{SbcDecoder}
+
+-- ---- a run: a list of actions, in any order
+
+pub data Action : Type 0 where
+  -- an encode call: its PCM, and its output before the call
+  encodes : List ℤ → List ℕ → Action
+  -- finishing is set
+  finishes : Action
+  -- a decode call: the frame of the stream that its piece begins at, the length of the piece, and its output before the call. 01 lets a
+  -- piece begin behind all frames that earlier decode calls took; here it may begin at any frame. It is cut where the stream ends
+  decodes : ℕ → ℕ → List ℤ → Action
+
+pub record State : Type 0 where
+  pub encoder : SbcEncoder
+  pub decoder : SbcDecoder
+  -- the first n frame lengths of each encode output, end to end in call order
+  pub stream : List ℕ
+
+-- what a call gives: its answer, its n, and its output after the call (samples of a decode call; none of the others)
+pub record Result : Type 0 where
+  pub answer : Told Progress
+  pub n : ℕ
+  pub heard : List ℤ
+
+pub record After : Type 0 where
+  pub state : State
+  pub result : Result
+
+module _ (p : SbcParameters) where
+  unfoldable pub afterEncode : State → List ℤ → List ℕ → After
+  afterEncode s pcm output =
+      let r = encode (s .encoder) pcm output in
+      let n = wholeFrames (length pcm) (frameSamples p) (length output) (frameLength p) in
+      record {
+        state = record { encoder = r .encoder; decoder = s .decoder; stream = s .stream ++ take (n * frameLength p) (r .output) };
+        result = record { answer = r .answer; n = n; heard = [] };
+      }
+
+  unfoldable pub afterDecode : State → ℕ → ℕ → List ℤ → After
+  afterDecode s start size output =
+      let piece = take size (drop (start * frameLength p) (s .stream)) in
+      let r = decode (s .decoder) piece output in
+      record {
+        state = record { encoder = s .encoder; decoder = r .decoder; stream = s .stream };
+        result =
+            record {
+              answer = r .answer;
+              n = wholeFrames (length piece) (frameLength p) (length output) (frameSamples p);
+              heard = r .output;
+            };
+      }
+
+  unfoldable pub after : State → Action → After
+  after s (encodes pcm output) = afterEncode s pcm output
+  after s finishes =
+      record {
+        state = record { encoder = s .encoder; decoder = finish (s .decoder); stream = s .stream };
+        result = record { answer = gives (progressOf 0 0); n = 0; heard = [] };
+      }
+  after s (decodes start size output) = afterDecode s start size output
+
+  -- each call gets the encoder or decoder as the last one left it, unchanged after a refusal
+  unfoldable pub run : State → List Action → List Result
+  run s [] = []
+  run s (a ∷ actions) = let r = after s a in r .result ∷ run (r .state) actions
+
+-- ---- runs that are alike in channel c: left is 0, right is 1
+
+-- two lists hold the same at the places of channel c below a limit (left 0, 2, 4 and on; right 1, 3, 5 and on)
+abbrev pub SamePlaces : ℕ → ℕ → List ℤ → List ℤ → Type 0
+SamePlaces c limit xs ys = (i : ℕ) → i < limit → i % 2 ≡ c → getD xs i (pos 0) ≡ getD ys i (pos 0)
+
+-- the same kind of action, all lengths and starts alike, and in an encode call's PCM the places of channel c; its other places, and every
+-- output before its call, hold anything
+pub data Alike (c : ℕ) : Action → Action → Type 0 where
+  both-encode : {xs ys : List ℤ} {out₁ out₂ : List ℕ} → length xs ≡ length ys → SamePlaces c (length xs) xs ys → length out₁ ≡ length out₂
+      → Alike c (encodes xs out₁) (encodes ys out₂)
+  both-finish : Alike c finishes finishes
+  both-decode : {start size : ℕ} {out₁ out₂ : List ℤ} → length out₁ ≡ length out₂ → Alike c (decodes start size out₁) (decodes start size out₂)
+
+pub data AllAlike (c : ℕ) : List Action → List Action → Type 0 where
+  none : AllAlike c [] []
+  one : {a b : Action} {xs ys : List Action} → Alike c a b → AllAlike c xs ys → AllAlike c (a ∷ xs) (b ∷ ys)
+
+-- ---- what follows: each call returns the same, and in the first n * frame_samples places of each decode output those of the channel are equal
+
+pub record SameResult (p : SbcParameters) (c : ℕ) (x y : Result) : Type 0 where
+  pub answer : x .answer ≡ y .answer
+  pub n : x .n ≡ y .n
+  pub heard : SamePlaces c (x .n * frameSamples p) (x .heard) (y .heard)
+
+pub data SameResults (p : SbcParameters) (c : ℕ) : List Result → List Result → Type 0 where
+  none : SameResults p c [] []
+  one : {x y : Result} {xs ys : List Result} → SameResult p c x y → SameResults p c xs ys → SameResults p c (x ∷ xs) (y ∷ ys)
+
+-- The claim: one accepted dual-channel set, an encoder created from it and a decoder as created; one channel; two runs alike in it.
+abbrev pub TwoLanguages : Type 0
+TwoLanguages =
+    (p : SbcParameters) (e : SbcEncoder) → accepted p ≡ true → p .«channel_mode» ≡ DualChannel → newEncoder p ≡ gives e →
+    (c : ℕ) → c < 2 → (xs ys : List Action) → AllAlike c xs ys →
+    let start : State = record { encoder = e; decoder = newDecoder; stream = [] } in
+    SameResults p c (run p start xs) (run p start ys)
