@@ -4,6 +4,7 @@ pub mod Encoded
 pub mod Looking
 pub mod Answering
 pub mod Taking
+pub mod Turning
 pub mod Writing
 pub mod Refusals
 pub mod NextCall

@@ -103,7 +103,8 @@ module _ (p : SbcParameters) (d : SbcDecoder) where
     abbrev behind : List ℤ
     behind = drop kept samples ++ drop (frameSamples p) output
 
-    length-kept : length (drop gone samples) ≡ kept
+    -- as many are kept as are not dropped
+    pub length-kept : length (drop gone samples) ≡ kept
     length-kept = length-drop gone samples ∙ ap (λ k. k - gone) (length-decoded p (startHistories p d) f)
 
     -- the kept samples stand in front

@@ -1,5 +1,6 @@
 pub mod Answers
 pub mod Encode
 pub mod Decode
+pub mod Told
 pub mod Seek
 pub mod TwoLanguages

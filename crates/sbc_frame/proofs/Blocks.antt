@@ -83,7 +83,8 @@ module _ (S : ℕ) where
       ∙ omega (arith, length-synthesize h s, length-synthesizeBlocks (synthesized S h s) ss, suc-mul (length ss) S)
 
 -- ---- positions
-total-next : (n : ℕ) (w : ℕ → ℕ) → total (n + 1) w ≡ total n w + w n
+-- a sum with one term more
+pub total-next : (n : ℕ) (w : ℕ → ℕ) → total (n + 1) w ≡ total n w + w n
 unfolding total
 total-next n w = rw add-one
 

@@ -1,8 +1,12 @@
--- Laws of a frame: the bits of its values, where its fields lie, the frame that is written, what is read from a frame, and coding one.
+-- Laws of a frame: the bits of its values, where its fields lie, the frame that is written, what is read from a frame, coding one, and playing one.
 pub mod Widths
 pub mod Positions
 pub mod Written
 pub mod Placed
 pub mod Reading
+pub mod Received
 pub mod Coding
 pub mod Blocks
+pub mod Columns
+pub mod Weaving
+pub mod Played

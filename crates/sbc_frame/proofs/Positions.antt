@@ -18,7 +18,7 @@ use Rattle.sbc_frame.proofs.Widths.{Enough, block-width}
 
 -- ---- one part of many
 -- a term and those before it are at most the whole sum
-total-below : (n : ℕ) (w : ℕ → ℕ) (i : ℕ) → i < n → total i w + w i ≤ total n w
+pub total-below : (n : ℕ) (w : ℕ → ℕ) (i : ℕ) → i < n → total i w + w i ≤ total n w
 unfolding total
 total-below zero w i h = absurd (omega arith)
 total-below (suc n) w i h = go (total-below n w i) (eq-or-lt-of-le (le-of-suc-le-suc h))
@@ -28,7 +28,7 @@ total-below (suc n) w i h = go (total-below n w i) (eq-or-lt-of-le (le-of-suc-le
     go rec (inr l) = omega (arith, rec l)
 
 -- and so of equal terms
-times-below : (n k i : ℕ) → i < n → i * k + k ≤ n * k
+pub times-below : (n k i : ℕ) → i < n → i * k + k ≤ n * k
 times-below n k i h = omega (arith, suc-mul i k, mul-le-mul-right k h)
 
 -- the scale factors by channel and subband are those that the sizes count

@@ -59,7 +59,7 @@ module _ (p : SbcParameters) (frame : List ℕ) where
     value-row : (b c : ℕ) → b < p .blocks → c < channels p → getD (getD (readValues p frame factors) b []) c [] ≡ row b c
     value-row b c hb hc = ap (λ (l : List (List ℕ)). getD l c []) (value-rows b hb) ∙ getD-build (channels p) (row b) c [] hc
 
-    read-value : (b c s : ℕ) → b < p .blocks → c < channels p → s < p .subbands
+    pub read-value : (b c s : ℕ) → b < p .blocks → c < channels p → s < p .subbands
         → getD (getD (getD (readValues p frame factors) b []) c []) s 0 ≡ numberAt frame (valuePosition p factors b c s) (widthAt p factors c s)
     read-value b c s hb hc hs = ap (λ (l : List ℕ). getD l s 0) (value-row b c hb hc) ∙ getD-build (p .subbands) (number b c) s 0 hs
 

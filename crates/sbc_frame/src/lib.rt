@@ -1,1 +1,6 @@
-// One frame of an SBC stream. The definitions stand in specs/, their laws in proofs/; the code comes with the decoder and the encoder.
+// One frame of an SBC stream, decoded. The definitions of both directions stand in specs/.
+pub mod decoding;
+mod playing;
+mod subbands;
+
+pub use decoding::decode_frame;

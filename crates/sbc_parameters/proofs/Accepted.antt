@@ -165,17 +165,21 @@ frame-length-range p a = go (p .«channel_mode») refl
     go Stereo e = rw e (omega (arith, lower (p .bitpool), upper (p .bitpool), r), omega (arith, lower (p .bitpool), upper (p .bitpool), r))
     go JointStereo e = rw e (omega (arith, lower (p .bitpool), upper (p .bitpool), r), omega (arith, lower (p .bitpool), upper (p .bitpool), r))
 
+-- 1 or 2 channels
+channels-of-range : (m : SbcChannelMode) → (1 ≤ channelsOf m) × (channelsOf m ≤ 2)
+channels-of-range Mono = (lit≤ tt, lit≤ tt)
+channels-of-range DualChannel = (lit≤ tt, lit≤ tt)
+channels-of-range Stereo = (lit≤ tt, lit≤ tt)
+channels-of-range JointStereo = (lit≤ tt, lit≤ tt)
+
+pub channels-range : (p : SbcParameters) → (1 ≤ channels p) × (channels p ≤ 2)
+channels-range p = channels-of-range (p .«channel_mode»)
+
 pub frame-samples-range : (p : SbcParameters) → accepted p ≡ true → (16 ≤ frameSamples p) × (frameSamples p ≤ 256)
 unfolding samplesPerChannel frameSamples
 frame-samples-range p a =
     let r = ranges p a in
-    let c = channels-range (p .«channel_mode») in
+    let c = channels-range p in
     let low : 4 * 4 ≤ p .blocks * p .subbands = mul-le-mul (r .blocks-low) (r .subbands-low) in
     let high : p .blocks * p .subbands ≤ 16 * 8 = mul-le-mul (r .blocks-high) (r .subbands-high) in
     (mul-le-mul {n₁ = 16} {m₁ = 1} low (c .0), mul-le-mul {n₂ = 128} {m₂ = 2} high (c .1))
-  where
-    channels-range : (m : SbcChannelMode) → (1 ≤ channelsOf m) × (channelsOf m ≤ 2)
-    channels-range Mono = (lit≤ tt, lit≤ tt)
-    channels-range DualChannel = (lit≤ tt, lit≤ tt)
-    channels-range Stereo = (lit≤ tt, lit≤ tt)
-    channels-range JointStereo = (lit≤ tt, lit≤ tt)

@@ -363,7 +363,7 @@ impl SbcParameters {
     }
 
     // The number of join flags: one a subband, in joint stereo only.
-    fn join_count(self) -> usize
+    pub fn join_count(self) -> usize
         ensures { λ r. ⌜ (r ≡ joinCount self) × (r ≤ 255) ⌝ }
     {
         let mode = self.channel_mode;
@@ -376,7 +376,7 @@ impl SbcParameters {
     }
 
     // The bits of the quantized values of one block.
-    fn block_bits(self) -> usize
+    pub fn block_bits(self) -> usize
         ensures { λ r. ⌜ (r ≡ blockBits self) × (r ≤ 510) ⌝ }
     {
         let mode = self.channel_mode;

@@ -1,0 +1,64 @@
+-- `look_behind` meets its contract: a whole frame has a byte 3, and its checksum is compared with it.
+-- Assumes nothing.
+use mathlib.Core.Path.{_≡_, sym, ap₂, _∙_}
+use native.Mathlib.Omega.{arith}
+use lib.ListN.{length, take}
+use lib.Seq.{length-take-le}
+use borrow.Author.Tests.{lt-ltb, le-ltb}
+use Rattle.crc8.specs.Checksum.{checksum}
+use Rattle.sbc_parameters.specs.Sizes.{sideBits, frameLength}
+use Rattle.sbc_parameters.proofs.Accepted.{frame-length-range}
+use Rattle.sbc.specs.Decode.{lookBehind}
+use Rattle.sbc.specs.Told.{toldFront}
+use borrow.Author.Needs.{needs}
+use Rattle.sbc.proofs.look_behind.Statement.{statement}
+use Rattle.sbc.proofs.look_behind.Tie as tie
+
+frame-length-requires : tie.Need-frame-length-requires
+frame-length-requires c κs = search needs
+
+returns : tie.Need-returns
+unfolding toldFront lookBehind
+returns c =
+    let start = c .before .before .before in
+    rw (lt-ltb (length (start .args .input .now)) (frameLength (start .args .parameters))
+    (omega (arith, c .if1 .taken, c .before .frame-length .ensures)))
+
+slice-aggregate-checksum : tie.Need-slice-aggregate-checksum
+slice-aggregate-checksum c =
+    sym (length-take-le (c .before .before .frame-length .result) (c .before .before .before .before .args .input .now)
+    (omega (arith, c .before .if1 .left)))
+
+side-bits-requires : tie.Need-side-bits-requires
+side-bits-requires c κs = search needs
+
+checksum-requires : tie.Need-checksum-requires
+checksum-requires c κs = search needs
+
+shared-slice-read-t10 : tie.Need-shared-slice-read-t10
+shared-slice-read-t10 c =
+    let start = c .before .before .before .before .before .before .before in
+    omega (arith, frame-length-range (start .args .parameters) (start .pre) .0, c .before .before .before .before .before .frame-length .ensures)
+
+returns-2 : tie.Need-returns-2
+unfolding toldFront lookBehind
+returns-2 c =
+    let start = c .before .before .before .before .before .before .before in
+    let p = start .args .parameters in
+    let input = start .args .input .now in
+    let long = c .before .before .before .before .before .frame-length .ensures in
+    let sum : c .before .checksum .result ≡ checksum (take (frameLength p) input) (sideBits p) =
+    c .before .checksum .ensures ∙ ap₂ (λ n bits. checksum (take n input) bits) long (c .before .before .side-bits .ensures) in
+    rw (le-ltb (length input) (frameLength p) (omega (arith, c .before .before .before .before .if1 .left, long)), sum)
+
+pub look-behind-spec : {M : Type 1} → statement M
+look-behind-spec =
+    tie.close
+    (tie.spec
+    frame-length-requires
+    returns
+    slice-aggregate-checksum
+    side-bits-requires
+    checksum-requires
+    shared-slice-read-t10
+    returns-2)
