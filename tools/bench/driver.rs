@@ -3,11 +3,14 @@
 //!     driver KERNEL rust|rattle N      runs the kernel N times and prints a digest of what it gave, the same for both
 use nanoaudio_sbc::exports;
 use nanoaudio_sbc::{SbcAllocation, SbcChannelMode, SbcParameters};
+use nanoaudio_sbc_blocks::exports_of_blocks;
 
 unsafe extern "C" {
     fn rattle_checksum(frame: *const u8, length: usize, side_bits: usize) -> u8;
     fn rattle_quantize(sample: i32, scale_factor: u8, bits: u8) -> u32;
     fn rattle_reconstruct(quantized: u32, scale_factor: u8, bits: u8) -> i32;
+    fn rattle_quantize_blocks(bits: *const [u8; 8], scale_factors: *const [u8; 8], samples: *const [i32; 128], output: *mut [u32; 128]);
+    fn rattle_reconstruct_blocks(bits: *const [u8; 8], scale_factors: *const [u8; 8], quantized: *const [u32; 128], output: *mut [i32; 128]);
     fn rattle_synthesize(values: *mut [i32; 160], input: *const [i32; 8], output: *mut [i16; 8], newest: usize, subbands: usize);
     fn rattle_analyze(history: *mut [i16; 80], input: *const [i16; 8], output: *mut [i32; 8], subbands: usize);
     fn rattle_scale_factor(maximum: u32) -> u8;
@@ -89,10 +92,16 @@ fn coding(a: u64) -> (u8, u8) {
     ((a % 16) as u8, (a >> 8) as u8 % 16 + 1)
 }
 
+/// A sample within the limits of a factor, below 2^(factor + 13) and not below its negation: the encoder chooses the factor by the subband's
+/// greatest sample, so that no other is drawn below factor 15.
+fn sample(a: u64, factor: u8) -> i32 {
+    ((a >> 16) as i32) >> (18 - factor)
+}
+
 fn quantize(rattle: bool, n: u64) -> u64 {
     values(3, n, |a| {
         let (factor, bits) = coding(a);
-        let sample = ((a >> 16) as i32) >> (16 - factor as i32);
+        let sample = sample(a, factor);
         (if rattle { unsafe { rattle_quantize(sample, factor, bits) } } else { exports::quantized(sample, factor, bits) }) as u64
     })
 }
@@ -103,6 +112,47 @@ fn reconstruct(rattle: bool, n: u64) -> u64 {
         let quantized = (a >> 16) as u32 % (1 << bits);
         (if rattle { unsafe { rattle_reconstruct(quantized, factor, bits) } } else { exports::reconstructed(quantized, factor, bits) }) as u64
     })
+}
+
+/// The bits of 8 subbands, 0 for an eighth of them, and their scale factors.
+fn codings(draw: &mut Draw) -> ([u8; 8], [u8; 8]) {
+    let (a, b) = (draw.next(), draw.next());
+    (a.to_le_bytes().map(|x| if x < 32 { 0 } else { x % 16 + 1 }), b.to_le_bytes().map(|x| x % 16))
+}
+
+/// 16 blocks of 8 subbands a turn.
+fn quantize_blocks(rattle: bool, n: u64) -> u64 {
+    let mut draw = Draw(8);
+    let mut digest = 0;
+    for _ in 0..n {
+        let (bits, factors) = codings(&mut draw);
+        let samples: [i32; 128] = std::array::from_fn(|i| sample(draw.next(), factors[i % 8]));
+        let mut output = [0u32; 128];
+        if rattle {
+            unsafe { rattle_quantize_blocks(&bits, &factors, &samples, &mut output) };
+        } else {
+            exports_of_blocks::quantized_blocks(&bits, &factors, &samples, &mut output);
+        }
+        digest = output.iter().fold(digest, |digest, value| mix(digest, *value as u64));
+    }
+    digest
+}
+
+fn reconstruct_blocks(rattle: bool, n: u64) -> u64 {
+    let mut draw = Draw(9);
+    let mut digest = 0;
+    for _ in 0..n {
+        let (bits, factors) = codings(&mut draw);
+        let quantized: [u32; 128] = std::array::from_fn(|i| (draw.next() >> 16) as u32 % (1 << bits[i % 8]));
+        let mut output = [0i32; 128];
+        if rattle {
+            unsafe { rattle_reconstruct_blocks(&bits, &factors, &quantized, &mut output) };
+        } else {
+            exports_of_blocks::reconstructed_blocks(&bits, &factors, &quantized, &mut output);
+        }
+        digest = output.iter().fold(digest, |digest, value| mix(digest, *value as u32 as u64));
+    }
+    digest
 }
 
 fn scale_factor(rattle: bool, n: u64) -> u64 {
@@ -171,6 +221,8 @@ fn main() {
         "analyze_4" => analyze(rattle, n, 4),
         "quantize_8_values" => quantize(rattle, n),
         "reconstruct_8_values" => reconstruct(rattle, n),
+        "quantize_16_blocks" => quantize_blocks(rattle, n),
+        "reconstruct_16_blocks" => reconstruct_blocks(rattle, n),
         "scale_factor_8_values" => scale_factor(rattle, n),
         "checksum" => checksum(rattle, n),
         other => panic!("no kernel {other}"),

@@ -4,24 +4,24 @@
 use mathlib.Core.Path.{_≡_, sym, ap, ap₂, _∙_}
 use mathlib.Core.Bool.{Bool}
 use Prim.Native.Nat.{ℕ, zero, suc, _+_, _*_, _-_, _/_, _%_, _^_, _≤_, _<_}
-use native.Mathlib.Nat.{mul-comm, div-zero, le-trans}
+use native.Mathlib.Nat.{div-zero, div-le-self, le-refl, le-trans}
 use native.Mathlib.Omega.{arith}
 use lib.Dec.{ltb}
-use lib.IntN.{ℤ, pos, negℤ, natAbs, subℕ, _*ℤ_}
+use lib.IntN.{ℤ, pos, negℤ, natAbs, subℕ, _+ℤ_, _-ℤ_, _*ℤ_, negℤ-+ℤ}
 use lib.Signed.{quotZ}
 use lib.Pow.{pow-pos, pow-mono}
 use borrow.Author.Tests.{ltb-true, ltb-false, ne-eqb}
 use Rattle.laws.specs.Choice.{if_then_else_}
-use Rattle.laws.proofs.Abs.{natAbs-neg}
+use Rattle.laws.proofs.Abs.{natAbs-neg, natAbs-*-le}
 use Rattle.laws.proofs.Cases.{by-test}
-use Rattle.laws.proofs.Difference.{pos-sub, sub-add, sub-of-le, sub-of-ge, times-neg, quot-neg}
+use Rattle.laws.proofs.Difference.{pos-sub, sub-add, sub-of-le, sub-of-ge, abs-sub-le, times-neg, quot-neg}
 use Rattle.sbc_quantizer.specs.declared.Dequantizer.{Dequantizer}
 use Rattle.sbc_quantizer.specs.Quantizing.{levels, reconstruct}
 use Rattle.sbc_quantizer.specs.Dequantizing.{dequantizer, Dequantizes}
 use Rattle.sbc_quantizer.proofs.Division.{double, fast, fast-le}
 
 -- how far q is from a; one of the two is 0
-abbrev pub apart : ℕ → ℕ → ℕ
+abbrev apart : ℕ → ℕ → ℕ
 apart q a = (q - a) + (a - q)
 
 -- the value that reconstructs to 0
@@ -76,24 +76,72 @@ reconstruct-bound q f b hq hf =
     (by-test (λ z. natAbs z ≤ 2 ^ 27) (ltb q (middle b)) _ _ (λ _. rw natAbs-neg (size-le q f b hq hf)) (λ _. size-le q f b hq hf))
 
 -- ---- what a `Dequantizer` computes, by its fields
-abbrev pub sizeBy : Dequantizer → ℕ → ℕ
-sizeBy d q = apart q (d .offset) * d .multiplier + apart q (d .offset) / 2 ^ d .tail
+abbrev sizeBy : Dequantizer → ℕ → ℕ
+sizeBy d q = d .multiplier * apart q (d .offset) + apart q (d .offset) / 2 ^ d .tail
+
+abbrev pub stepsBy : Dequantizer → ℕ → ℤ
+stepsBy d q = pos q -ℤ pos (d .offset)
+
+-- the steps times the multiplier and the steps shifted have the sign of the steps
+signed-size : (q a k t : ℕ) →
+    pos k *ℤ (pos q -ℤ pos a) +ℤ quotZ (pos q -ℤ pos a) (pos t) ≡ signed (ltb q a) (k * apart q a + apart q a / t)
+signed-size q a k t =
+    rw (pos-sub q a)
+    (by-test (λ z. pos k *ℤ subℕ q a +ℤ quotZ (subℕ q a) (pos t) ≡ z) (ltb q a) _ _ (λ e. minus (ltb-true q a e)) (λ e. plus (ltb-false q a e)))
+  where
+    minus : q < a → pos k *ℤ subℕ q a +ℤ quotZ (subℕ q a) (pos t) ≡ negℤ (pos (k * apart q a + apart q a / t))
+    minus h =
+        let e : a - q ≡ apart q a = omega arith in
+        let z : subℕ q a ≡ negℤ (pos (apart q a)) = sub-of-ge q a (omega arith) ∙ ap (λ (n : ℕ). negℤ (pos n)) e in
+        rw (z, times-neg, quot-neg) (sym (negℤ-+ℤ (pos (k * apart q a)) (pos (apart q a / t))))
+
+    plus : a ≤ q → pos k *ℤ subℕ q a +ℤ quotZ (subℕ q a) (pos t) ≡ pos (k * apart q a + apart q a / t)
+    plus h =
+        let e : q - a ≡ apart q a = omega arith in
+        let z : subℕ q a ≡ pos (apart q a) = sub-of-le q a h ∙ ap pos e in
+        rw z
 
 module _ {d : Dequantizer} {q f b : ℕ} (w : Dequantizes d q f b) where
   size-is : sizeBy d q ≡ 2 ^ (f + 12) * apart q (middle b) / levels b
   unfolding dequantizer
-  size-is =
-      let m : ℕ = apart q (middle b) in
-      ap (λ (e : Dequantizer). sizeBy e q) (w .made) ∙ ap (λ (x : ℕ). x + m / 2 ^ (b - (f + 12) % b)) (mul-comm m (2 ^ (f + 12) / levels b))
-      ∙ fast (f + 12) b m (steps-le q b (w .value))
+  size-is = ap (λ (e : Dequantizer). sizeBy e q) (w .made) ∙ fast (f + 12) b (apart q (middle b)) (steps-le q b (w .value))
 
-  pub size-small : sizeBy d q ≤ 2 ^ 27
+  size-small : sizeBy d q ≤ 2 ^ 27
   size-small = rw size-is (size-le q f b (w .value) (w .factor))
+
+  pub value-small : q < 2 ^ 16
+  value-small = omega (arith, w .value, pow-mono (w .bits))
+
+  pub offset-small : d .offset < 2 ^ 16
+  unfolding dequantizer
+  offset-small =
+      let h : b - 1 ≤ 16 = omega (arith, w .bits) in
+      omega (arith, ap (λ (e : Dequantizer). e .offset) (w .made), pow-mono h, pow-pos (b - 1))
+
+  pub multiplier-small : d .multiplier ≤ 2 ^ 27
+  unfolding dequantizer
+  multiplier-small =
+      let h : f + 12 ≤ 27 = omega (arith, w .factor) in
+      omega (arith, ap (λ (e : Dequantizer). e .multiplier) (w .made), div-le-self (2 ^ (f + 12)) (levels b), pow-mono h)
 
   pub tail-small : d .tail ≤ 16
   unfolding dequantizer
   tail-small = omega (arith, ap (λ (e : Dequantizer). e .tail) (w .made), w .bits)
 
-  pub value-is : (if ltb q (d .offset) then negℤ (pos (sizeBy d q)) else pos (sizeBy d q)) ≡ reconstruct q f b
+  steps-abs : natAbs (stepsBy d q) ≤ apart q (d .offset)
+  steps-abs = rw pos-sub (abs-sub-le q (d .offset) _ (omega arith) (omega arith))
+
+  pub steps-small : natAbs (stepsBy d q) < 2 ^ 16
+  steps-small = omega (arith, steps-abs, value-small, offset-small)
+
+  pub product-small : natAbs (pos (d .multiplier) *ℤ stepsBy d q) ≤ 2 ^ 27
+  product-small =
+      let h = natAbs-*-le (pos (d .multiplier)) (stepsBy d q) (le-refl (d .multiplier)) steps-abs in
+      omega (arith, h, size-small)
+
+  pub value-is : pos (d .multiplier) *ℤ stepsBy d q +ℤ quotZ (stepsBy d q) (pos (2 ^ d .tail)) ≡ reconstruct q f b
   unfolding dequantizer
-  value-is = ap₂ (λ (o n : ℕ). signed (ltb q o) n) (ap (λ (e : Dequantizer). e .offset) (w .made)) size-is ∙ sym (by-sign q f b)
+  value-is =
+      signed-size q (d .offset) (d .multiplier) (2 ^ d .tail)
+      ∙ ap₂ (λ (o n : ℕ). signed (ltb q o) n) (ap (λ (e : Dequantizer). e .offset) (w .made)) size-is
+      ∙ sym (by-sign q f b)

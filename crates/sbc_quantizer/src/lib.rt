@@ -1,24 +1,25 @@
 // Scale factors, the quantizer and the dequantizer of SBC's subband samples (document 01, "Quantizing").
 ghost use mathlib.Core.Path.{_≡_};
 ghost use Prim.Native.Nat.{ℕ, _+_, _-_, _/_, _^_, _≤_, _<_};
-ghost use lib.IntN.{pos, negℤ, _+ℤ_};
+ghost use lib.IntN.{pos, negsuc, natAbs, _+ℤ_};
+ghost use lib.Signed.{ltZ, quotZ};
 ghost use Rattle.laws.specs.Choice.{if_then_else_};
 ghost use Rattle.sbc_quantizer.specs.Quantizing.{scaleFactor, levels, quantize, reconstruct};
 ghost use Rattle.sbc_quantizer.specs.Dequantizing.{held, dequantizer, Dequantizes};
 use laws::power_of_two;
 
-// The scale factor of a subband whose greatest absolute value is `maximum`.
+// The scale factor of a subband whose greatest absolute value is `maximum`. Between the least factor and the greatest, it is the factor f for
+// which `maximum` has f + 13 binary digits, so that no search is needed.
 pub fn scale_factor(maximum: u32) -> u8
     ensures { λ r. ⌜ r ≡ scaleFactor maximum ⌝ }
 {
-    let mut factor: u8 = 0;
-    while factor < 15 {
-        if maximum < power_of_two(factor as u32 + 13) {
-            return factor;
-        }
-        factor += 1;
+    if 134217728 <= maximum {
+        return 15;
     }
-    factor
+    if 8192 <= maximum {
+        return (19 - u32::leading_zeros(maximum)) as u8;
+    }
+    0
 }
 
 // The greatest value of so many bits.
@@ -54,54 +55,50 @@ pub fn quantize(sample: i32, scale_factor: u8, bits: u8) -> u32
     (product >> (scale_factor as u32 + 14)) as u32
 }
 
-// 2 ^ 31 / (2 ^ bits - 1), rounded down, by the number of bits; 0 for 0 bits.
-const RECIPROCALS: [u32; 17] = [
-    0,
-    2147483648,
-    715827882,
-    306783378,
-    143165576,
-    69273666,
-    34087042,
-    16909320,
-    8421504,
-    4202512,
-    2099202,
-    1049088,
-    524416,
-    262176,
-    131080,
-    65538,
-    32768,
-];
-
-// The reciprocal for so many bits.
-fn reciprocal(bits: usize) -> u32
-    requires { ⌜ bits ≤ 16 ⌝ }
+// 2 ^ 31 / (2 ^ bits - 1), rounded down. A `match` is compiled to a table in memory, where a constant array would be built anew at each read;
+// the remainder is there for the compiler, which then has no other number to test for.
+fn reciprocal(bits: u8) -> u32
+    requires { ⌜ (0 < bits) × (bits ≤ 16) ⌝ }
     ensures { λ r. ⌜ r ≡ 2 ^ 31 / levels bits ⌝ }
 {
-    RECIPROCALS[bits]
+    match (bits - 1) % 16 {
+        0 => 2147483648,
+        1 => 715827882,
+        2 => 306783378,
+        3 => 143165576,
+        4 => 69273666,
+        5 => 34087042,
+        6 => 16909320,
+        7 => 8421504,
+        8 => 4202512,
+        9 => 2099202,
+        10 => 1049088,
+        11 => 524416,
+        12 => 262176,
+        13 => 131080,
+        14 => 65538,
+        _ => 32768,
+    }
 }
 
-// How far a and b are apart. Of the two differences in the contract, one is 0.
-fn distance(a: u32, b: u32) -> u32
-    ensures { λ r. ⌜ r ≡ (a - b) + (b - a) ⌝ }
+// -1 for a negative number, else 0.
+fn sign(x: i32) -> i32
+    ensures { λ r. ⌜ r ≡ (if ltZ x (pos 0) then negsuc 0 else pos 0) ⌝ }
 {
-    if a < b {
-        return b - a;
+    if x < 0 {
+        return -1;
     }
-    a - b
+    0
 }
 
-// size or -size.
-fn with_sign(size: u32, negative: bool) -> i32
-    requires { ⌜ size < 2 ^ 31 ⌝ }
-    ensures { λ r. ⌜ r ≡ (if negative then negℤ (pos size) else pos size) ⌝ }
+// x / 2 ^ bits, cut toward zero. A shift rounds down: x - 1 of a negative x gives one less than the quotient. No branch decides which it
+// is, since the signs of a frame are random.
+fn cut(x: i32, bits: u32) -> i32
+    requires { ⌜ (bits < 32) × (natAbs x < 2 ^ 31) ⌝ }
+    ensures { λ r. ⌜ r ≡ quotZ x (pos (2 ^ bits)) ⌝ }
 {
-    if negative {
-        return -(size as i32);
-    }
-    size as i32
+    let below = sign(x);
+    ((x + below) >> bits) - below
 }
 
 // Reconstructs the values of one subband, by a multiplication and a shift in place of the division. 0 bits give 0.
@@ -124,24 +121,21 @@ impl Dequantizer {
                 offset: 0,
             };
         }
-        let width = bits as u32;
-        let shift = scale_factor as u32 + 12;
+        let shift = scale_factor + 12;
         Self {
-            multiplier: reciprocal(bits as usize) >> (31 - shift),
-            tail: width - shift % width,
-            offset: power_of_two(width - 1) - 1,
+            multiplier: reciprocal(bits) >> (31 - shift),
+            tail: (bits - shift % bits) as u32,
+            offset: power_of_two(bits as u32 - 1) - 1,
         }
     }
 
-    // The reconstruction of a value. The sign is put on last: the signs of a frame are random, and a branch over the multiplication
-    // would cost more than it spares.
+    // The reconstruction of a value, by the steps from the value that reconstructs to 0.
     pub fn apply(self, quantized: u32) -> i32
         requires { ⌜ ((f : ℕ) × (b : ℕ) × Dequantizes self quantized f b) ⌝ }
         ensures { λ r. ⌜ ((f b : ℕ) → Dequantizes self quantized f b → r ≡ reconstruct quantized f b) ⌝ }
     {
-        let steps = distance(quantized, self.offset);
-        let size = steps * self.multiplier + (steps >> self.tail);
-        with_sign(size, quantized < self.offset)
+        let steps = (quantized as i32) - (self.offset as i32);
+        (self.multiplier as i32) * steps + cut(steps, self.tail)
     }
 }
 

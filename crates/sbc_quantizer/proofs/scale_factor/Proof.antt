@@ -1,73 +1,60 @@
--- `sbc_quantizer::scale_factor` meets its contract: the loop is the search of `firstFrom`, and what is left of the search finds the answer.
+-- `sbc_quantizer::scale_factor` meets its contract: the maximum lies between the powers of two that its leading zeros name.
 -- Assumes nothing.
-use mathlib.Core.Path.{_≡_, refl, sym, _∙_}
-use mathlib.Core.Bool.{true, false}
-use Prim.Native.Nat.{ℕ, _+_, _-_, _^_, _≤_, _<_}
+use mathlib.Core.Path.{_≡_, sym}
+use Prim.Native.Nat.{ℕ, suc, _+_, _-_, _^_, _≤_, _<_}
+use native.Mathlib.Nat.{lt-of-not-le}
 use native.Mathlib.Omega.{arith}
-use lib.Dec.{ltb}
-use borrow.Author.Tests.{lt-ltb, le-ltb}
-use Rattle.sbc_quantizer.specs.Quantizing.{firstFrom, scaleFactor}
-use Rattle.sbc_quantizer.proofs.Factors.{first-here, first-next, first-end}
+use lib.Count.{leadingZeros, leading-top}
+use lib.Pow.{pow-mono}
+use borrow.Author.Needs.{needs}
+use Rattle.sbc_quantizer.specs.Quantizing.{scaleFactor}
+use Rattle.sbc_quantizer.proofs.Factors.{scale-factor-is}
 use Rattle.sbc_quantizer.proofs.scale_factor.Statement.{statement}
 use Rattle.sbc_quantizer.proofs.scale_factor.Tie as tie
 
--- the test of the definition, from the test of the code
-passes : (maximum f limit : ℕ) → limit ≡ 2 ^ (f + 13) → maximum < limit → ltb maximum (2 ^ (f + 13)) ≡ true
-passes maximum f limit e h = lt-ltb maximum (2 ^ (f + 13)) (omega arith)
+-- the exponents of a power that m reaches and of one that it does not
+between : (a b m : ℕ) → 2 ^ a ≤ m → m < 2 ^ b → a < b
+between a b m h k = lt-of-not-le (λ (g : b ≤ a). omega (arith, pow-mono g))
 
-fails : (maximum f limit : ℕ) → limit ≡ 2 ^ (f + 13) → limit ≤ maximum → ltb maximum (2 ^ (f + 13)) ≡ false
-fails maximum f limit e h = le-ltb maximum (2 ^ (f + 13)) (omega arith)
+-- the highest digit of a number between 2 ^ 13 and 2 ^ 27, by the leading zeros
+record Digit (m : ℕ) : Type 0 where
+  place : ℕ
+  zeros : leadingZeros 32 m + suc place ≡ 32
+  reached : 2 ^ place ≤ m
+  above : m < 2 ^ suc place
+  large : 13 ≤ place
+  small : place < 27
 
-abbrev Inv-loop : tie.InvT-loop
-Inv-loop maximum factor₀ factor = (factor ≤ 15) × (firstFrom (λ f. ltb maximum (2 ^ (f + 13))) factor (15 - factor) ≡ scaleFactor maximum)
+digit : (m : ℕ) → 2 ^ 13 ≤ m → m < 2 ^ 27 → Digit m
+digit m h k =
+    let t = leading-top 32 m (omega arith) (omega arith) in
+    let l = between 13 (suc (t .0)) m h (t .3) in
+    let s = between (t .0) 27 m (t .2) k in
+    record { place = t .0; zeros = t .1; reached = t .2; above = t .3; large = omega arith; small = s }
 
-abbrev μ-loop : tie.MeasureT-loop
-μ-loop maximum factor₀ factor = 15 - factor
+factor-is : (m : ℕ) → 2 ^ 13 ≤ m → m < 2 ^ 27 → scaleFactor m ≡ 19 - leadingZeros 32 m
+factor-is m h k =
+    let d = digit m h k in
+    let e : d .place ≡ 19 - leadingZeros 32 m + 12 = omega (arith, d .zeros, d .large) in
+    let n : suc (d .place) ≡ 19 - leadingZeros 32 m + 13 = omega (arith, d .zeros, d .large) in
+    scale-factor-is m (19 - leadingZeros 32 m) (omega (arith, d .small)) (λ _. rw (← e) (d .reached)) (λ _. rw (← n) (d .above))
 
-loop-holds : tie.Need-loop-holds Inv-loop μ-loop
-unfolding scaleFactor
-loop-holds c = (omega arith, refl)
+returns : tie.Need-returns
+returns c = sym (scale-factor-is (c .before .args .maximum) 15 (omega arith) (λ _. c .if1 .taken) (λ l. absurd (omega arith)))
 
-cast-power-of-two : tie.Need-cast-power-of-two Inv-loop μ-loop
-cast-power-of-two c = omega arith
+sub-result : tie.Need-sub-result
+sub-result c =
+    let d = digit (c .before .before .args .maximum) (c .if2 .taken) (c .before .if1 .left) in
+    omega (arith, d .zeros, d .large)
 
-add-power-of-two : tie.Need-add-power-of-two Inv-loop μ-loop
-add-power-of-two c = omega arith
+cast-result : tie.Need-cast-result
+cast-result c = search needs
 
-power-of-two-requires : tie.Need-power-of-two-requires Inv-loop μ-loop
-power-of-two-requires c κs = omega arith
+returns-2 : tie.Need-returns-2
+returns-2 c = sym (factor-is (c .before .before .args .maximum) (c .if2 .taken) (c .before .if1 .left))
 
-returns : tie.Need-returns Inv-loop μ-loop
-returns c =
-    let inv = c .before .before .before .loop .inv in
-    sym (first-here _ _ 15 (omega arith) (passes _ _ _ (c .before .power-of-two .ensures) (c .if1 .taken))) ∙ inv .1
-
-add-factor : tie.Need-add-factor Inv-loop μ-loop
-add-factor c = omega arith
-
-loop-less : tie.Need-loop-less Inv-loop μ-loop
-loop-less c = omega arith
-
-loop-again : tie.Need-loop-again Inv-loop μ-loop
-loop-again c =
-    let inv = c .before .before .before .loop .inv in
-    (omega arith, sym (first-next _ _ 15 (omega arith) (fails _ _ _ (c .before .power-of-two .ensures) (c .if1 .left))) ∙ inv .1)
-
-returns-2 : tie.Need-returns-2 Inv-loop μ-loop
-returns-2 c = sym (first-end _ _ 15 (omega arith)) ∙ c .before .loop .inv .1
+returns-3 : tie.Need-returns-3
+returns-3 c = sym (scale-factor-is (c .before .before .args .maximum) 0 (omega arith) (λ l. absurd (omega arith)) (λ _. c .if2 .left))
 
 pub scale-factor-spec : {M : Type 1} → statement M
-scale-factor-spec =
-    tie.close
-    (tie.spec
-    Inv-loop
-    μ-loop
-    loop-holds
-    cast-power-of-two
-    add-power-of-two
-    power-of-two-requires
-    returns
-    add-factor
-    loop-less
-    loop-again
-    returns-2)
+scale-factor-spec = tie.close (tie.spec returns sub-result cast-result returns-2 returns-3)

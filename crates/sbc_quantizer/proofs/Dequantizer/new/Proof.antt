@@ -50,17 +50,23 @@ add-shift c = search needs
 reciprocal-requires : tie.Need-reciprocal-requires
 reciprocal-requires c κs = search needs
 
-sub-t8 : tie.Need-sub-t8
-sub-t8 c = search needs
+sub-t6 : tie.Need-sub-t6
+sub-t6 c = search needs
 
-shr-t9 : tie.Need-shr-t9
-shr-t9 c = search needs
+cast-t7 : tie.Need-cast-t7
+cast-t7 c = search needs
 
-rem-t10 : tie.Need-rem-t10
-rem-t10 c = search needs
+shr-t8 : tie.Need-shr-t8
+shr-t8 c = search needs
 
-sub-t11 : tie.Need-sub-t11
-sub-t11 c = let p : 0 < c .before .before .args .bits = omega (arith, c .before .if1 .left) in le-of-lt (mod-lt _ p)
+rem-t9 : tie.Need-rem-t9
+rem-t9 c = search needs
+
+sub-t10 : tie.Need-sub-t10
+sub-t10 c = let p : 0 < c .before .before .args .bits = omega (arith, c .before .if1 .left) in le-of-lt (mod-lt _ p)
+
+cast-t11 : tie.Need-cast-t11
+cast-t11 c = search needs
 
 sub-power-of-two : tie.Need-sub-power-of-two
 sub-power-of-two c = search needs
@@ -68,8 +74,8 @@ sub-power-of-two c = search needs
 power-of-two-requires : tie.Need-power-of-two-requires
 power-of-two-requires c κs = search needs
 
-sub-t14 : tie.Need-sub-t14
-sub-t14 c = omega (arith, c .power-of-two .ensures, pow-pos (c .before .before .before .args .bits - 1))
+sub-t15 : tie.Need-sub-t15
+sub-t15 c = omega (arith, c .power-of-two .ensures, pow-pos (c .before .before .before .args .bits - 1))
 
 pub new-spec : {M : Type 1} → statement M
 new-spec =
@@ -78,11 +84,13 @@ new-spec =
     returns
     add-shift
     reciprocal-requires
-    sub-t8
-    shr-t9
-    rem-t10
-    sub-t11
+    sub-t6
+    cast-t7
+    shr-t8
+    rem-t9
+    sub-t10
+    cast-t11
     sub-power-of-two
     power-of-two-requires
-    sub-t14
+    sub-t15
     returns-2)
