@@ -4,3 +4,4 @@ pub mod Channels
 pub mod Encoding
 pub mod Decoding
 pub mod Parts
+pub mod Pieces

@@ -1,6 +1,9 @@
-// One frame of an SBC stream, decoded. The definitions of both directions stand in specs/.
+// One frame of an SBC stream, decoded and encoded. The definitions of both directions stand in specs/.
+mod analyzing;
 pub mod decoding;
+mod joining;
 mod playing;
 mod subbands;
+mod writing;
 
 pub use decoding::decode_frame;
