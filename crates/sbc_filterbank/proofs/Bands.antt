@@ -19,6 +19,7 @@ use Rattle.laws.proofs.Lists.{length-build, getD-build, getD-build-out, build-i
 use Rattle.laws.proofs.Table.{at}
 use Rattle.sbc_tables.specs.Tables.{prototype, prototype4, prototype8}
 use Rattle.sbc_filterbank.specs.Subbands.{Bands, bandsOf, prototypeAt, padded}
+use Rattle.sbc_filterbank.specs.Fold.{tapSum}
 
 -- ---- the numbers of subbands
 pub for-bands : {S : ℕ} (P : ℕ → Type 0) → Bands S → P 4 → P 8 → P S
@@ -49,16 +50,16 @@ column-bound k b =
     (λ h. leb→le (column 4 k) 400000000 (at 8 (column-small 4) tt k h))
     (λ h. leb→le (column 8 k) 400000000 (at 16 (column-small 8) tt k h))
 
--- each entry
-tap-small : ℕ → ℕ → Bool
-tap-small S k = leb (natAbs (prototypeAt S k)) 320000000
+-- the entries that output j takes
+tap-sum-small : ℕ → ℕ → Bool
+tap-sum-small S j = leb (tapSum S 10 j) 700000000
 
-pub tap-bound : {S : ℕ} (k : ℕ) → Bands S → k < 10 * S → natAbs (prototypeAt S k) ≤ 320000000
-unfolding tap-small prototypeAt prototype prototype4 prototype8
-tap-bound k b =
-    for-bands (λ s. k < 10 * s → natAbs (prototypeAt s k) ≤ 320000000) b
-    (λ h. leb→le (natAbs (prototypeAt 4 k)) 320000000 (at 40 (tap-small 4) tt k h))
-    (λ h. leb→le (natAbs (prototypeAt 8 k)) 320000000 (at 80 (tap-small 8) tt k h))
+pub tap-sum-bound : {S : ℕ} (j : ℕ) → Bands S → j < S → tapSum S 10 j ≤ 700000000
+unfolding tap-sum-small total prototypeAt prototype prototype4 prototype8
+tap-sum-bound j b =
+    for-bands (λ s. j < s → tapSum s 10 j ≤ 700000000) b
+    (λ h. leb→le (tapSum 4 10 j) 700000000 (at 4 (tap-sum-small 4) tt j h))
+    (λ h. leb→le (tapSum 8 10 j) 700000000 (at 8 (tap-sum-small 8) tt j h))
 
 -- ---- a list in an array of eight: its length, its entries, which are the list's and 0 behind them, and its first entries
 zeros : (n i : ℕ) → getD (replicate n (pos 0)) i (pos 0) ≡ pos 0

@@ -1,6 +1,6 @@
 -- Where the code reads the ring, and the outputs and a block of synthesis from what the code's steps give.
 -- Assumes nothing.
-use Prim.Native.Nat.{ℕ, _+_, _*_, _-_, _/_, _%_, _≤_, _<_}
+use Prim.Native.Nat.{ℕ, _+_, _*_, _-_, _/_, _%_, _≤_, _<_, zero-le}
 use mathlib.Core.Path.{_≡_, refl, sym, ap, ap₂, _∙_, subst}
 use mathlib.Core.List.{List}
 use native.Mathlib.Nat.{mul-le-mul-right}
@@ -14,7 +14,7 @@ use Rattle.laws.specs.Bits.{odd}
 use Rattle.laws.specs.Sums.{sumZ, upTo, overwrite}
 use Rattle.laws.proofs.Cases.{by-test}
 use Rattle.laws.proofs.Lists.{getD-build, build-is}
-use Rattle.laws.proofs.Arrays.{filled-ext, getD-filled, within-replicate, overwrite-ext}
+use Rattle.laws.proofs.Arrays.{filled-ext, getD-filled, overwrite-ext}
 use Rattle.sbc_filterbank.specs.Subbands.{Bands, padded}
 use Rattle.sbc_filterbank.specs.Synthesis.{modulatedAt, modulated, vectorPlace, rounded, synthesisOutputs}
 use Rattle.sbc_filterbank.specs.Ring.{ring, nextSlot, ringPushed}
@@ -76,7 +76,7 @@ sums-none S vs = (
   sym (build-is 8 _ (replicate 8 (pos 0)) (pos 0) refl
       (λ i h. let e = sym (getD-replicate 8 i (pos 0) (pos 0) h) in
       by-test (λ (z : ℤ). z ≡ getD (replicate 8 (pos 0)) i (pos 0)) (ltb i S) (pos 0) (pos 0) (λ _. e) (λ _. e))),
-  within-replicate 8 0 (pos 0) (omega arith),
+  λ j h. zero-le,
 )
 
 pub outputs-of : {S : ℕ} (vs : List (List ℤ)) (sums out : List ℤ) → Bands S → OutputSums S vs 10 sums

@@ -1,12 +1,11 @@
--- The two sums with the prototype, as the code takes them, with bounds that grow by a term at a time, so that what is read of a history need
--- not be known before it is read: Y's by the prototype's entries, with its loop's stepped index, and an output's by the largest term. And
--- the rounding of an output.
+-- The two sums with the prototype, as the code takes them, with bounds that grow by an entry of the prototype at a time, so that what is read
+-- of a history need not be known before it is read: Y's, with its loop's stepped index, and an output's. And the rounding of an output.
 -- Assumes nothing.
 use Prim.Native.Nat.{ℕ, suc, _+_, _*_, _-_, _/_, _^_, _≤_, _<_}
 use mathlib.Core.Bool.{Bool, true, false}
 use mathlib.Core.Path.{_≡_, refl, sym, ap, _∙_, subst}
 use mathlib.Core.List.{List}
-use native.Mathlib.Nat.{le-refl, le-trans, le-of-eq, add-mul, suc-mul, add-le-add, mul-le-mul-right}
+use native.Mathlib.Nat.{le-refl, le-trans, add-mul, add-le-add, mul-le-mul-right}
 use native.Mathlib.Decide.{ℕ-discrete}
 use native.Mathlib.Numerals.{add-one}
 use native.Mathlib.Omega.{arith}
@@ -16,7 +15,6 @@ use lib.IntN.{ℤ, pos, negsuc, negℤ, natAbs, subℕ, _+ℤ_, _-ℤ_, _*ℤ_, 
 use lib.Signed.{mag}
 use mir.Syntax.{Width, w16, w32, w64}
 use mir.Val.{SFits, hbits, toZ, ofZ}
-use mir.Facts.{toZ-ofZ}
 use borrow.Author.Tests.{eq-eqb, ne-eqb, ltb-true, ltb-false, lt-ltb}
 use Rattle.laws.specs.Lists.{total}
 use Rattle.laws.specs.Integers.{floorDiv, clampZ, Within}
@@ -24,11 +22,12 @@ use Rattle.laws.specs.Sums.{sumZ}
 use Rattle.laws.proofs.Abs.{natAbs-+, natAbs--, natAbs-*-le, abs-sfits, within-fits, sum-fits, difference-fits}
 use Rattle.laws.proofs.Difference.{sub-of-le}
 use Rattle.laws.proofs.Floor.{natAbs-floor}
+use Rattle.laws.proofs.Arrays.{getD-filled, within-upTo}
 use Rattle.laws.proofs.Sums.{next-sum, total-fewer}
 use Rattle.sbc_filterbank.specs.Subbands.{Bands, prototypeAt}
 use Rattle.sbc_filterbank.specs.Synthesis.{vectorAt, vectorPlace, sampleTerm, roundingBits, rounded}
-use Rattle.sbc_filterbank.specs.Fold.{termBound}
-use Rattle.sbc_filterbank.proofs.Bands.{for-bands}
+use Rattle.sbc_filterbank.specs.Fold.{outputBound, OutputSums}
+use Rattle.sbc_filterbank.proofs.Bands.{for-bands, bands-le, tap-sum-bound}
 
 -- ---- s is the sum of the first n products p k × x k, and within the sum of the first n factors p k times b
 pub record Summed (b : ℕ) (p x : ℕ → ℤ) (n : ℕ) (s : ℤ) : Type 0 where
@@ -38,6 +37,10 @@ pub record Summed (b : ℕ) (p x : ℕ → ℤ) (n : ℕ) (s : ℤ) : Type 0 whe
 -- for Y[k]
 abbrev pub WindowSummed : ℕ → List ℤ → ℕ → ℕ → ℤ → Type 0
 WindowSummed S X k = Summed (2 ^ 15) (λ j. prototypeAt S (k + 2 * S * j)) (λ j. getD X (k + 2 * S * j) (pos 0))
+
+-- for output j
+abbrev pub SampleSummed : ℕ → List (List ℤ) → ℕ → ℕ → ℤ → Type 0
+SampleSummed S vs j = Summed (2 ^ 31) (λ b. prototypeAt S (b * S + j)) (λ b. vectorAt vs b (vectorPlace S j b))
 
 pub summed-none : (b : ℕ) (p x : ℕ → ℤ) → Summed b p x 0 (pos 0)
 unfolding sumZ total
@@ -97,56 +100,37 @@ all-next P k h p i l = go (ℕ-discrete i k)
     go (yes e) = subst P (sym e) p
     go (no ne) = h i (omega arith)
 
--- ---- an output's sum with one vector more: what it is, and its bound
-sum-fits-64 : (n : ℕ) (z : ℤ) → n ≤ 10 → natAbs z ≤ n * termBound → SFits w64 z
-sum-fits-64 n z h k = within-fits w64 {b = 10 * termBound} z (le-trans k (mul-le-mul-right termBound h)) (lit< tt)
+-- ---- the sums of the outputs: each as the sum above, and the ten vectors' within the prototype's bound
+module _ {S : ℕ} (vs : List (List ℤ)) (sums : List ℤ) (b : Bands S) where
+  pub sample-summed : (n j : ℕ) → OutputSums S vs n sums → j < S → SampleSummed S vs j n (getD sums j (pos 0))
+  sample-summed n j e h = record { is = getD-filled 8 S (λ i. sumZ n (sampleTerm S vs i)) sums j (e .0) h (bands-le b); small = e .1 j h }
 
-module _ (S : ℕ) (vs : List (List ℤ)) (j b : ℕ) (s y z : ℤ) (l : natAbs (prototypeAt S (b * S + j)) ≤ 320000000) (hz : mag z < 2 ^ 31)
-    (es : s ≡ sumZ b (sampleTerm S vs j)) (ez : z ≡ vectorAt vs b (vectorPlace S j b)) (h : natAbs s ≤ b * termBound) where
-  pub more-is : mag y < 2 ^ 31 → y ≡ prototypeAt S (b * S + j)
-      → s +ℤ toZ w32 (ofZ w32 y) *ℤ toZ w32 (ofZ w32 z) ≡ sumZ (b + 1) (sampleTerm S vs j)
-  more-is hy ey = next-sum b (λ k. prototypeAt S (k * S + j)) (λ k. vectorAt vs k (vectorPlace S j k)) s y z hy hz es ey ez
-
-  term : natAbs (sampleTerm S vs j b) ≤ termBound
-  term =
-      natAbs-*-le (prototypeAt S (b * S + j)) (vectorAt vs b (vectorPlace S j b)) l
-      (subst (λ (v : ℤ). natAbs v ≤ 2 ^ 31) ez (read-small w32 z hz))
-
-  pub more-small : natAbs (sumZ (b + 1) (sampleTerm S vs j)) ≤ (b + 1) * termBound
-  unfolding sumZ
-  more-small =
-      rw (add-one b)
-      (le-trans (natAbs-+ (sumZ b (sampleTerm S vs j)) (sampleTerm S vs j b))
-      (le-trans (add-le-add (subst (λ (v : ℤ). natAbs v ≤ b * termBound) es h) term) (le-of-eq (sym (suc-mul b termBound)))))
-
--- an entry of the sums so far, as the machine reads it
-pub read-sum : (n : ℕ) (xs : List ℤ) → n ≤ 10 → Within (n * termBound) xs → (i : ℕ) → toZ w64 (ofZ w64 (getD xs i (pos 0))) ≡ getD xs i (pos 0)
-read-sum n xs h p i = toZ-ofZ (sum-fits-64 n (getD xs i (pos 0)) h (p i))
-
--- the sum with one vector more
-pub more-fits : (b : ℕ) (y z : ℤ) → b < 10 → y ≡ z → natAbs z ≤ (b + 1) * termBound → SFits w64 y
-more-fits b y z h e k = sum-fits-64 (b + 1) y (omega arith) (subst (λ (v : ℤ). natAbs v ≤ (b + 1) * termBound) (sym e) k)
+  pub output-sums-within : OutputSums S vs 10 sums → Within outputBound sums
+  output-sums-within e =
+      subst (Within outputBound) (sym (e .0))
+      (within-upTo 8 S outputBound (λ j. sumZ 10 (sampleTerm S vs j))
+      (λ j h. le-trans (e .1 j h) (mul-le-mul-right (2 ^ 31) (tap-sum-bound j b h))))
 
 -- ---- the rounding: the sum negated, divided and with 1 added fits, and half of it is the definition's
-pub negated-sum : (z : ℤ) → natAbs z ≤ 10 * termBound → SFits w64 (pos 0 -ℤ z)
-negated-sum z h = difference-fits w64 {a = 0} {b = 10 * termBound} (pos 0) z (lit≤ tt) h (lit< tt)
+pub negated-sum : (z : ℤ) → natAbs z ≤ outputBound → SFits w64 (pos 0 -ℤ z)
+negated-sum z h = difference-fits w64 {a = 0} {b = outputBound} (pos 0) z (lit≤ tt) h (lit< tt)
 
 -- m is the divisor
-module _ (z : ℤ) (m : ℕ) (l : 10 * termBound ≤ 100000000 * m) (p : 0 < m) (h : natAbs z ≤ 10 * termBound) where
-  divided-small : natAbs (floorDiv (pos 0 -ℤ z) m) ≤ 100000000
+module _ (z : ℤ) (m : ℕ) (l : outputBound ≤ 22000000 * m) (p : 0 < m) (h : natAbs z ≤ outputBound) where
+  divided-small : natAbs (floorDiv (pos 0 -ℤ z) m) ≤ 22000000
   divided-small =
       let q : natAbs (pos 0 -ℤ z) ≤ natAbs z = omega (arith, natAbs-- (pos 0) z) in
-      natAbs-floor (pos 0 -ℤ z) m 100000000 p (le-trans q (le-trans h l))
+      natAbs-floor (pos 0 -ℤ z) m 22000000 p (le-trans q (le-trans h l))
 
   pub divided-fits : SFits w32 (floorDiv (pos 0 -ℤ z) m)
   divided-fits = within-fits w32 (floorDiv (pos 0 -ℤ z) m) divided-small (lit< tt)
 
   pub one-more-fits : SFits w32 (floorDiv (pos 0 -ℤ z) m +ℤ pos 1)
-  one-more-fits = sum-fits w32 {a = 100000000} {b = 1} (floorDiv (pos 0 -ℤ z) m) (pos 1) divided-small (lit≤ tt) (lit< tt)
+  one-more-fits = sum-fits w32 {a = 22000000} {b = 1} (floorDiv (pos 0 -ℤ z) m) (pos 1) divided-small (lit≤ tt) (lit< tt)
 
-  half-small : natAbs (floorDiv (floorDiv (pos 0 -ℤ z) m +ℤ pos 1) 2) ≤ 100000000
+  half-small : natAbs (floorDiv (floorDiv (pos 0 -ℤ z) m +ℤ pos 1) 2) ≤ 22000000
   half-small =
-      natAbs-floor (floorDiv (pos 0 -ℤ z) m +ℤ pos 1) 2 100000000 (lit< tt)
+      natAbs-floor (floorDiv (pos 0 -ℤ z) m +ℤ pos 1) 2 22000000 (lit< tt)
       (le-trans (natAbs-+ (floorDiv (pos 0 -ℤ z) m) (pos 1)) (le-trans (add-le-add divided-small (le-refl 1)) (lit≤ tt)))
 
   pub half-fits : SFits w64 (floorDiv (floorDiv (pos 0 -ℤ z) m +ℤ pos 1) 2)

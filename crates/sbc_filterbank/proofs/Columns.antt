@@ -17,7 +17,7 @@ use Rattle.laws.specs.Lists.{collect, build}
 use Rattle.laws.specs.Integers.{Within, floorDiv}
 use Rattle.laws.specs.Sums.{sumZ, upTo, delta}
 use Rattle.laws.proofs.Cases.{by-test}
-use Rattle.laws.proofs.Ring.{one-*ℤ, minus-one-*ℤ}
+use Rattle.laws.proofs.Ring.{one-*ℤ}
 use Rattle.laws.proofs.Abs.{natAbs-+, natAbs--, natAbs-*-le}
 use Rattle.laws.proofs.Floor.{natAbs-floor}
 use Rattle.laws.proofs.Sums.{sumZ-ext, sumZ-bound}
@@ -40,9 +40,9 @@ module _ (S : ℕ) (Y : ℕ → ℤ) (c : ℕ) where
   unfolding foldColumn
   fold-near ne h = rw (ne-eqb c 0 ne, le-leb c (S / 2) h) (ap (λ z. Y (S / 2 + c) +ℤ z) (one-*ℤ (Y (S / 2 - c))))
 
-  pub fold-far : (c ≡ 0 → ⊥) → S / 2 < c → foldColumn S Y c ≡ Y (S / 2 + c) -ℤ Y (5 * (S / 2) - c)
+  pub fold-far : (c ≡ 0 → ⊥) → S / 2 < c → foldColumn S Y c ≡ Y (S / 2 + c) +ℤ negsuc 0 *ℤ Y (5 * (S / 2) - c)
   unfolding foldColumn
-  fold-far ne h = rw (ne-eqb c 0 ne, lt-leb c (S / 2) h) (ap (λ z. Y (S / 2 + c) +ℤ z) (minus-one-*ℤ (Y (5 * (S / 2) - c))))
+  fold-far ne h = rw (ne-eqb c 0 ne, lt-leb c (S / 2) h)
 
 -- ---- the coefficients of Y in the sums of columns
 weight : ℕ → ℕ → ℕ → ℕ → ℤ

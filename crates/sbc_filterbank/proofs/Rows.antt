@@ -9,9 +9,9 @@ use native.Mathlib.Nat.{le-trans, mul-le-mul-right}
 use native.Mathlib.Omega.{arith}
 use lib.Dec.{T, eqb, ltb, leb, lit≤}
 use lib.ListN.{length, getD}
-use lib.IntN.{ℤ, pos, negsuc, negℤ, natAbs, _+ℤ_, _-ℤ_, _*ℤ_, zero-*ℤ, +ℤ-idl}
+use lib.IntN.{ℤ, pos, negsuc, natAbs, _+ℤ_, _-ℤ_, _*ℤ_}
 use mir.Syntax.{w32}
-use borrow.Author.Tests.{eq-eqb, ne-eqb, le-leb, lt-leb, lt-ltb, le-ltb, ltb-true, ltb-false, leb-true, leb-false, eqb-true, eqb-false}
+use borrow.Author.Tests.{eq-eqb, ne-eqb, ltb-true, ltb-false, leb-true, leb-false, eqb-true, eqb-false}
 use Rattle.laws.specs.Choice.{if_then_else_}
 use Rattle.laws.specs.Lists.{collect, build}
 use Rattle.laws.specs.Integers.{Within, floorDiv, clampZ}
@@ -26,7 +26,7 @@ use Rattle.laws.proofs.Table.{eqZ, eqZ→eq, allBelow, at, table-within}
 use Rattle.sbc_tables.specs.Tables.{cosines}
 use Rattle.sbc_filterbank.specs.Subbands.{Bands, cosineAt}
 use Rattle.sbc_filterbank.specs.Synthesis.{synthesisCosine, modulateTerm, modulatedAt}
-use Rattle.sbc_filterbank.specs.Fold.{Part, pairSign, pairOf, rowOdd, synthesisRows, rowTerm, rowSum, rowSource, rowSign, signedRow, rowValue}
+use Rattle.sbc_filterbank.specs.Fold.{Part, pairSign, pairOf, rowOdd, synthesisRows, rowTerm, rowSum, rowSource, rowSign, rowValue}
 use Rattle.sbc_filterbank.proofs.Bands.{for-bands, bands-le}
 
 pub halves : {S : ℕ} → Bands S → S ≡ 2 * (S / 2)
@@ -78,41 +78,24 @@ module _ (S : ℕ) (M sums differences : List ℤ) (m : ℕ) (e : M ≡ synthesi
   unfolding rowSum
   row-uneven q = rw (ne-eqb (rowOdd S m) 0 q) (ap (λ (l : List ℤ). sumZ (S / 2) (rowTerm l differences (m * (S / 2)))) e)
 
--- ---- a row of V, by its cases
-module _ (S : ℕ) (rows : List ℤ) (r : ℕ) where
-  pub row-first : r < S / 2 → signedRow S rows r ≡ getD rows r (pos 0)
-  unfolding signedRow
-  row-first h = rw (ne-eqb r (S / 2) (omega arith), lt-ltb r (S / 2) h) (one-*ℤ (getD rows r (pos 0)))
-
-  pub row-zero : r ≡ S / 2 → signedRow S rows r ≡ pos 0
-  unfolding signedRow
-  row-zero h = rw (eq-eqb r (S / 2) h) (zero-*ℤ (getD rows (rowSource S r) (pos 0)))
-
-  pub row-minus : S / 2 ≤ r → (r ≡ S / 2 → ⊥) → r ≤ S → signedRow S rows r ≡ pos 0 -ℤ getD rows (S - r) (pos 0)
-  unfolding signedRow
-  row-minus g ne h =
-      rw (ne-eqb r (S / 2) ne, le-ltb r (S / 2) g, le-leb r S h)
-      (minus-one-*ℤ (getD rows (S - r) (pos 0)) ∙ sym (+ℤ-idl (negℤ (getD rows (S - r) (pos 0)))))
-
-  pub row-second : S / 2 ≤ r → (r ≡ S / 2 → ⊥) → S < r → r ≤ 3 * (S / 2) → signedRow S rows r ≡ getD rows (r - S / 2 - 1) (pos 0)
-  unfolding signedRow
-  row-second g ne h k =
-      rw (ne-eqb r (S / 2) ne, le-ltb r (S / 2) g, lt-leb r S h, le-leb r (3 * (S / 2)) k) (one-*ℤ (getD rows (r - S / 2 - 1) (pos 0)))
-
-  pub row-mirror : S / 2 ≤ r → (r ≡ S / 2 → ⊥) → S < r → 3 * (S / 2) < r → signedRow S rows r ≡ getD rows (5 * (S / 2) - r - 1) (pos 0)
-  unfolding signedRow
-  row-mirror g ne h k =
-      rw (ne-eqb r (S / 2) ne, le-ltb r (S / 2) g, lt-leb r S h, lt-leb r (3 * (S / 2)) k) (one-*ℤ (getD rows (5 * (S / 2) - r - 1) (pos 0)))
-
--- every row but S/2 comes from a row of the matrix
-source-below : {S : ℕ} (r : ℕ) → Bands S → r < 2 * S → (r ≡ S / 2 → ⊥) → rowSource S r < S
-source-below {S} r b h ne =
+-- ---- every row of V comes from a row of the matrix, with a sign of 1, 0 or -1
+pub source-below : {S : ℕ} (r : ℕ) → Bands S → r < 2 * S → rowSource S r < S
+source-below {S} r b h =
     by-test (λ z. z < S) (ltb r (S / 2)) r _ (λ e. omega (arith, ltb-true r (S / 2) e))
     (λ e. by-test (λ z. z < S) (leb r S) (S - r) _
-    (λ _. for-bands (λ s. s / 2 ≤ r → (r ≡ s / 2 → ⊥) → s - r < s) b (λ x y. omega arith) (λ x y. omega arith) (ltb-false r (S / 2) e) ne)
+    (λ _. for-bands (λ s. s / 2 ≤ r → s - r < s) b (λ x. omega arith) (λ x. omega arith) (ltb-false r (S / 2) e))
     (λ _. by-test (λ z. z < S) (leb r (3 * (S / 2))) (r - S / 2 - 1) (5 * (S / 2) - r - 1)
     (λ g. for-bands (λ s. r ≤ 3 * (s / 2) → r - s / 2 - 1 < s) b (λ x. omega arith) (λ x. omega arith) (leb-true r (3 * (S / 2)) g))
     (λ g. for-bands (λ s. 3 * (s / 2) < r → 5 * (s / 2) - r - 1 < s) b (λ x. omega arith) (λ x. omega arith) (leb-false r (3 * (S / 2)) g))))
+
+pub row-sign-small : (S r : ℕ) → natAbs (rowSign S r) ≤ 1
+row-sign-small S r = go (eqb r (S / 2)) (ltb r (S / 2)) (leb r S)
+  where
+    go : (s t u : Bool) → natAbs (if s then pos 0 else (if t then pos 1 else (if u then negsuc 0 else pos 1))) ≤ 1
+    go true t u = lit≤ tt
+    go false true u = lit≤ tt
+    go false false true = lit≤ tt
+    go false false false = lit≤ tt
 
 -- ---- row r of V, from what the steps give
 module _ {S : ℕ} (input sums differences rows : List ℤ) (b : Bands S)
@@ -134,16 +117,13 @@ module _ {S : ℕ} (input sums differences rows : List ℤ) (b : Bands S)
       (λ i l. sym (*ℤ-assoc (rowSign S r) (weight S (rowSource S r) i) (getD input i (pos 0)))
       ∙ ap (λ z. z *ℤ getD input i (pos 0)) (weight-is r i b h l))
 
-  signed-row-is : signedRow S rows r ≡ sumZ S (modulateTerm S input r)
-  unfolding signedRow sum-of-source
-  signed-row-is = go (eqb r (S / 2)) refl ∙ signs
-    where
-      go : (t : Bool) → eqb r (S / 2) ≡ t → rowSign S r *ℤ getD rows (rowSource S r) (pos 0) ≡ rowSign S r *ℤ sum-of-source
-      go true t = rw t (zero-*ℤ (getD rows (rowSource S r) (pos 0)) ∙ sym (zero-*ℤ sum-of-source))
-      go false t =
-          ap (λ z. rowSign S r *ℤ z)
-          (getD-filled 8 S (rowSum S sums differences) rows (rowSource S r) e (source-below r b h (eqb-false r (S / 2) t)) (bands-le b)
-          ∙ row-sum-is S (λ k. getD input k (pos 0)) sums differences (entry 0 sums p) (entry 1 differences q) (rowSource S r))
+  signed-row-is : rowSign S r *ℤ getD rows (rowSource S r) (pos 0) ≡ sumZ S (modulateTerm S input r)
+  unfolding sum-of-source
+  signed-row-is =
+      ap (λ z. rowSign S r *ℤ z)
+      (getD-filled 8 S (rowSum S sums differences) rows (rowSource S r) e (source-below r b h) (bands-le b)
+      ∙ row-sum-is S (λ k. getD input k (pos 0)) sums differences (entry 0 sums p) (entry 1 differences q) (rowSource S r))
+      ∙ signs
 
   pub row-value-is : rowValue S rows r ≡ modulatedAt S input r
   unfolding rowValue modulatedAt

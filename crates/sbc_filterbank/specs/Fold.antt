@@ -1,16 +1,17 @@
 -- How the code takes the sums in parts, for the contracts of its inner functions alone: entries whose cosines are equal or opposite are
 -- added or subtracted first, and the history moves in two steps. Nothing public cites this.
-use Prim.Native.Nat.{ℕ, _+_, _*_, _-_, _/_, _%_, _^_, _≤_}
+use Prim.Native.Nat.{ℕ, _+_, _*_, _-_, _/_, _%_, _^_, _≤_, _<_}
 use mathlib.Core.Path.{_≡_}
 use mathlib.Core.List.{List, _++_}
 use lib.Dec.{eqb, leb, ltb}
 use lib.ListN.{length, getD}
-use lib.IntN.{ℤ, pos, negsuc, _+ℤ_, _-ℤ_, _*ℤ_}
+use lib.IntN.{ℤ, pos, negsuc, natAbs, _+ℤ_, _-ℤ_, _*ℤ_}
 use mir.Syntax.{w32}
 use Rattle.laws.specs.Choice.{if_then_else_}
-use Rattle.laws.specs.Lists.{collect, build}
+use Rattle.laws.specs.Lists.{collect, build, total}
 use Rattle.laws.specs.Integers.{floorDiv, clampZ, Within}
 use Rattle.laws.specs.Sums.{sumZ, upTo}
+use Rattle.sbc_filterbank.specs.Subbands.{prototypeAt}
 use Rattle.sbc_filterbank.specs.Analysis.{analysisCosine}
 use Rattle.sbc_filterbank.specs.Synthesis.{synthesisCosine, sampleTerm}
 
@@ -18,12 +19,12 @@ use Rattle.sbc_filterbank.specs.Synthesis.{synthesisCosine, sampleTerm}
 abbrev pub joinAt : ℕ → (ℕ → ℤ) → (ℕ → ℤ) → ℕ → ℤ
 joinAt n f g k = if ltb k n then f k else g k
 
--- it moves up by S within its first 10 S places
-abbrev pub movedUp : ℕ → List ℤ → ℕ → ℤ
-movedUp S X k = if ltb k (10 * S) then getD X (k - S) (pos 0) else getD X k (pos 0)
+-- its first `count` places move up by S
+abbrev pub movedUp : ℕ → ℕ → List ℤ → ℕ → ℤ
+movedUp S count X k = if ltb k (count + S) then getD X (k - S) (pos 0) else getD X k (pos 0)
 
-abbrev pub moved : ℕ → List ℤ → List ℤ
-moved S X = build (length X) (joinAt S (λ k. getD X k (pos 0)) (movedUp S X))
+abbrev pub moved : ℕ → ℕ → List ℤ → List ℤ
+moved S count X = build (length X) (joinAt S (λ k. getD X k (pos 0)) (movedUp S count X))
 
 -- and the new samples come to the front, newest first
 abbrev pub entering : ℕ → List ℤ → ℕ → ℤ
@@ -90,7 +91,7 @@ rowTerm matrix pairs at n = getD matrix (at + n) (pos 0) *ℤ getD pairs n (pos 
 unfoldable pub rowSum : ℕ → List ℤ → List ℤ → ℕ → ℤ
 rowSum S sums differences m = sumZ (S / 2) (rowTerm (synthesisRows S) (if eqb (rowOdd S m) 0 then sums else differences) (m * (S / 2)))
 
--- row r of V before it is divided: the row of the matrix that it comes from, and its sign; row S/2 is 0
+-- row r of V: the row of the matrix that it comes from, and its sign; row S/2 is 0
 abbrev pub rowSource : ℕ → ℕ → ℕ
 rowSource S r =
     if ltb r (S / 2) then r else (if leb r S then S - r else (if leb r (3 * (S / 2)) then r - S / 2 - 1 else 5 * (S / 2) - r - 1))
@@ -98,17 +99,20 @@ rowSource S r =
 abbrev pub rowSign : ℕ → ℕ → ℤ
 rowSign S r = if eqb r (S / 2) then pos 0 else (if ltb r (S / 2) then pos 1 else (if leb r S then negsuc 0 else pos 1))
 
-unfoldable pub signedRow : ℕ → List ℤ → ℕ → ℤ
-signedRow S rows r = rowSign S r *ℤ getD rows (rowSource S r) (pos 0)
-
 -- V[r] from the rows
 unfoldable pub rowValue : ℕ → List ℤ → ℕ → ℤ
-rowValue S rows r = clampZ w32 (floorDiv (signedRow S rows r) (2 ^ 30))
+rowValue S rows r = clampZ w32 (floorDiv (rowSign S r *ℤ getD rows (rowSource S r) (pos 0)) (2 ^ 30))
 
--- what a term of an output's sum is within: no tap passes 320000000
-abbrev pub termBound : ℕ
-termBound = 320000000 * 2 ^ 31
+-- what the taps of output j for the n newest vectors sum to, each without its sign: for all ten at most 700000000
+abbrev pub tapSum : ℕ → ℕ → ℕ → ℕ
+tapSum S n j = total n (λ b. natAbs (prototypeAt S (b * S + j)))
 
--- the S sums of the outputs over the n newest vectors, in an array of eight, and their bound
+-- so an output's sum is within this, as a vector's numbers are within 2 ^ 31
+abbrev pub outputBound : ℕ
+outputBound = 700000000 * 2 ^ 31
+
+-- the S sums of the outputs over the n newest vectors, in an array of eight, and their bounds
 abbrev pub OutputSums : ℕ → List (List ℤ) → ℕ → List ℤ → Type 0
-OutputSums S vs n sums = (sums ≡ build 8 (upTo S (λ j. sumZ n (sampleTerm S vs j)))) × (Within (n * termBound) sums)
+OutputSums S vs n sums =
+    (sums ≡ build 8 (upTo S (λ j. sumZ n (sampleTerm S vs j))))
+    × ((j : ℕ) → j < S → natAbs (sumZ n (sampleTerm S vs j)) ≤ tapSum S n j * 2 ^ 31)

@@ -16,12 +16,12 @@ ghost use Rattle.sbc_filterbank.specs.Subbands.{Bands, bandsOf, padded};
 ghost use Rattle.sbc_filterbank.specs.Analysis.{shifted, windowTerm, windowed, analysisOutputs};
 ghost use Rattle.sbc_filterbank.specs.Fold.{moved, entered, Part, foldColumn, analysisColumns, columnTerm, columnSum, outputValue};
 
-// The history moved up by S, from the last place down, so that nothing is overwritten before it is moved.
-fn shift_history(history: &mut [i16; 80], subbands: usize)
-    requires { ⌜ Bands subbands ⌝ }
-    ensures { λ r. ⌜ now (history .exit) ≡ moved subbands (now (history .entry)) ⌝ }
+// The first `count` places of the history moved up by S, from the last one down, so that nothing is overwritten before it is moved.
+fn shift_history(history: &mut [i16; 80], subbands: usize, count: usize)
+    requires { ⌜ (Bands subbands) × (count + subbands ≤ 80) ⌝ }
+    ensures { λ r. ⌜ now (history .exit) ≡ moved subbands count (now (history .entry)) ⌝ }
 {
-    let mut k = 9 * subbands;
+    let mut k = count;
     while 0 < k {
         k = k - 1;
         history[k + subbands] = history[k];
@@ -67,7 +67,7 @@ fn windows(history: &[i16; 80], taps: &[i32], subbands: usize) -> [i32; 16]
     partial
 }
 
-// Column c of Y: entries whose cosines are equal are added, and those whose cosines are opposite, past column S/2, subtracted.
+// Column c of Y: two entries whose cosines are equal, added. Past column S/2 they are opposite, and the second has the other sign.
 fn fold(partial: &[i32; 16], subbands: usize, c: usize) -> i32
     requires { ⌜ (Bands subbands) × (c < subbands) × (Within 400000000 (now partial)) ⌝ }
     ensures { λ r. ⌜ r ≡ foldColumn subbands (λ k. getD (now (partial .entry)) k (pos 0)) c ⌝ }
@@ -80,7 +80,8 @@ fn fold(partial: &[i32; 16], subbands: usize, c: usize) -> i32
     if c <= half {
         return right + partial[half - c];
     }
-    right - partial[5 * half - c]
+    let sign = -1;
+    right + sign * partial[5 * half - c]
 }
 
 // The S columns.
@@ -151,7 +152,7 @@ pub fn analyze8(history: &mut [i16; 80], input: &[i16; 8]) -> [i32; 8]
     ensures outputs { λ r. ⌜ r ≡ padded (analysisOutputs 8 (shifted 8 (now (history .entry)) (now (input .entry)))) ⌝ }
     ensures within { λ r. ⌜ Within 800000000 r ⌝ }
 {
-    shift_history(history, 8);
+    shift_history(history, 8, 72);
     enter(history, input, 8);
     let partial = windows(history, &sbc_tables::PROTOTYPE_8, 8);
     let columns = fold_all(&partial, 8);
@@ -166,7 +167,7 @@ pub fn analyze4(history: &mut [i16; 80], input: &[i16; 8]) -> [i32; 8]
     ensures outputs { λ r. ⌜ r ≡ padded (analysisOutputs 4 (shifted 4 (now (history .entry)) (now (input .entry)))) ⌝ }
     ensures within { λ r. ⌜ Within 800000000 r ⌝ }
 {
-    shift_history(history, 4);
+    shift_history(history, 4, 36);
     enter(history, input, 4);
     let partial = windows(history, &sbc_tables::PROTOTYPE_4, 4);
     let columns = fold_all(&partial, 4);

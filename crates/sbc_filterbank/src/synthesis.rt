@@ -15,7 +15,7 @@ ghost use Rattle.sbc_tables.specs.Tables.{prototype};
 ghost use Rattle.sbc_filterbank.specs.Subbands.{Bands, bandsOf, padded};
 ghost use Rattle.sbc_filterbank.specs.Synthesis.{modulated, vectorPlace, rounded, synthesisOutputs};
 ghost use Rattle.sbc_filterbank.specs.Ring.{ring, nextSlot, ringPushed};
-ghost use Rattle.sbc_filterbank.specs.Fold.{Part, pairOf, rowOdd, synthesisRows, rowTerm, rowSum, signedRow, rowValue, termBound, OutputSums};
+ghost use Rattle.sbc_filterbank.specs.Fold.{Part, pairOf, rowOdd, synthesisRows, rowTerm, rowSum, rowSource, rowSign, rowValue, outputBound, OutputSums};
 
 // The last ten vectors, in a ring of ten slots; the slot `newest` holds the newest.
 pub struct Synthesis {
@@ -123,34 +123,49 @@ fn row_all(matrix: &[i32], sums: &[i32; 4], differences: &[i32; 4], subbands: us
     rows
 }
 
-// Row r of V, before it is divided: a row of the matrix, or the mirror of one, which may change the sign. The sign is put on here, since
-// the division rounds down: the other way round it would round up.
-fn signed_row(rows: &[i64; 8], subbands: usize, r: usize) -> i64
-    requires { ⌜ (Bands subbands) × (r < 2 * subbands) × (Within (2 ^ 62) (now rows)) ⌝ }
-    ensures { λ z. ⌜ z ≡ signedRow subbands (now (rows .entry)) r ⌝ }
+// The row of the matrix that gives row r of V: the row itself, or one that it mirrors.
+fn row_source(subbands: usize, r: usize) -> usize
+    requires { ⌜ (Bands subbands) × (r < 2 * subbands) ⌝ }
+    ensures { λ z. ⌜ z ≡ rowSource subbands r ⌝ }
 {
     let half = subbands / 2;
     if r < half {
-        return rows[r];
+        return r;
     }
+    if r <= subbands {
+        return subbands - r;
+    }
+    if r <= 3 * half {
+        return r - half - 1;
+    }
+    5 * half - r - 1
+}
+
+// The sign that row r of V has from there. Row S/2 is 0.
+fn row_sign(subbands: usize, r: usize) -> i64
+    ensures { λ z. ⌜ z ≡ rowSign subbands r ⌝ }
+{
+    let half = subbands / 2;
     if r == half {
         return 0;
     }
+    if r < half {
+        return 1;
+    }
     if r <= subbands {
-        return 0 - rows[subbands - r];
+        return -1;
     }
-    if r <= 3 * half {
-        return rows[r - half - 1];
-    }
-    rows[5 * half - r - 1]
+    1
 }
 
-// V[r].
+// V[r]. The sign goes on before the division, which rounds down: a row divided and then negated would be rounded up.
 fn modulate(rows: &[i64; 8], subbands: usize, r: usize) -> i32
     requires { ⌜ (Bands subbands) × (r < 2 * subbands) × (Within (2 ^ 62) (now rows)) ⌝ }
     ensures { λ z. ⌜ z ≡ rowValue subbands (now (rows .entry)) r ⌝ }
 {
-    laws::clamp_i32(signed_row(rows, subbands, r) >> 30)
+    let source = row_source(subbands, r);
+    let sign = row_sign(subbands, r);
+    laws::clamp_i32((sign * rows[source]) >> 30)
 }
 
 // V into the ring, from `at` on.
@@ -237,7 +252,7 @@ fn sums4(values: &[i32; 160], taps: &[i32], newest: usize) -> [i64; 8]
 // The sum negated and divided, rounded to the nearest and clamped. Half of the divisor is added as 1 before the last bit goes, and as an
 // i32: then the compiler clamps the outputs together.
 fn round(sum: i64, subbands: usize) -> i16
-    requires { ⌜ natAbs sum ≤ 10 * termBound ⌝ }
+    requires { ⌜ natAbs sum ≤ outputBound ⌝ }
     ensures { λ z. ⌜ z ≡ rounded subbands sum ⌝ }
 {
     if subbands == 4 {
@@ -248,7 +263,7 @@ fn round(sum: i64, subbands: usize) -> i16
 
 // The S outputs.
 fn output(sums: &[i64; 8], subbands: usize) -> [i16; 8]
-    requires { ⌜ (Bands subbands) × (Within (10 * termBound) (now sums)) ⌝ }
+    requires { ⌜ (Bands subbands) × (Within outputBound (now sums)) ⌝ }
     ensures { λ z. ⌜ z ≡ build 8 (upTo subbands (λ j. rounded subbands (getD (now (sums .entry)) j (pos 0)))) ⌝ }
 {
     let mut out = [0i16; 8];

@@ -5,7 +5,7 @@ use Prim.Native.Nat.{_*_, _^_}
 use mathlib.Core.Path.{refl, _∙_, ap}
 use mathlib.Core.Logic.{inl}
 use mathlib.Core.List.{List}
-use lib.Dec.{lit<}
+use lib.Dec.{lit≤, lit<}
 use lib.IntN.{ℤ}
 use Rattle.laws.specs.Lists.{collect, build}
 use Rattle.laws.specs.Integers.{Within}
@@ -20,7 +20,7 @@ use Rattle.sbc_filterbank.proofs.analysis.analyze4.Statement.{statement
 use Rattle.sbc_filterbank.proofs.analysis.analyze4.Tie as tie
 
 shift-history-requires : tie.Need-shift-history-requires
-shift-history-requires c κs = inl refl
+shift-history-requires c κs = (inl refl, lit≤ tt)
 
 enter-requires : tie.Need-enter-requires
 enter-requires c κs = search needs
@@ -70,7 +70,7 @@ returns c =
     let entered = windows .before .before .before in
     let moved = entered .before .before in
     let start = moved .before .before in
-    let x = shifted-is 4 (start .args .history .now) _ _ (start .args .input .now) (moved .shift-history .ensures) (entered .enter .ensures) in
+    let x = shifted-is 4 36 (start .args .history .now) _ _ (start .args .input .now) refl (moved .shift-history .ensures) (entered .enter .ensures) in
     let y = outputs-is _ _ _ _ _ _ (inl refl) (windows .windows .ensures .0) (folded .fold-all .ensures) (even .column-sums .ensures)
     (odd .column-sums2 .ensures) (c .output-all .ensures) in
     let z = outputs-within _ (even .column-sums .result) (odd .column-sums2 .result) _ (even-within even) (odd-within odd) (c .output-all .ensures) in

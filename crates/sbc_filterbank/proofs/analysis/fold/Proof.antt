@@ -1,16 +1,16 @@
--- `sbc_filterbank::analysis::fold` meets its contract: the three branches are the column's cases, and no sum or difference of two entries
--- passes an i32.
+-- `sbc_filterbank::analysis::fold` meets its contract: the three branches are the column's cases, and no sum of two entries, with either
+-- sign, passes an i32.
 -- Assumes nothing.
 use Prim.Native.Nat.{_+_, _*_, _-_, _/_}
 use mathlib.Core.Path.{_∙_, sym}
 use native.Mathlib.Omega.{arith}
-use lib.Dec.{lit<}
-use lib.IntN.{pos}
+use lib.Dec.{lit≤, lit<}
+use lib.IntN.{pos, negsuc}
 use lib.ListN.{getD}
 use mir.Syntax.{w32}
 use Rattle.sbc_filterbank.proofs.Bands.{bands-le}
 use Rattle.sbc_filterbank.proofs.Columns.{fold-first, fold-near, fold-far}
-use Rattle.sbc_filterbank.proofs.Words.{read-entry, plus-fits, minus-fits, read-plus, read-minus}
+use Rattle.sbc_filterbank.proofs.Words.{read-entry, plus-fits, read-plus, signed-entry-fits, plus-signed-fits, read-plus-signed}
 use borrow.Author.Needs.{needs}
 use Rattle.sbc_filterbank.proofs.analysis.fold.Statement.{statement}
 use Rattle.sbc_filterbank.proofs.analysis.fold.Tie as tie
@@ -62,17 +62,21 @@ mul-result-3 c = omega (arith, bands-le (c .before .before .before .pre .0))
 element-copy-out-result-2 : tie.Need-element-copy-out-result-2
 element-copy-out-result-2 c = omega (arith, bands-le (c .before .before .before .pre .0))
 
-sub-result-2 : tie.Need-sub-result-2
-sub-result-2 c =
+mul-result-4 : tie.Need-mul-result-4
+mul-result-4 c =
     let start = c .before .before .before .before in
-    minus-fits w32 (start .args .partial .now) (start .args .partial .now) (start .pre .2) (start .pre .2) (lit< tt)
-    (start .args .subbands / 2 + start .args .c) (5 * (start .args .subbands / 2) - start .args .c)
+    let fits = signed-entry-fits w32 (start .args .partial .now) (start .pre .2) (lit< tt) in search (fits, needs)
+
+add-result-2 : tie.Need-add-result-2
+add-result-2 c =
+    let start = c .before .before .before .before in
+    let fits = plus-signed-fits w32 (start .args .partial .now) (start .pre .2) (lit< tt) in search (fits, needs)
 
 returns-3 : tie.Need-returns-3
 returns-3 c =
     let start = c .before .before .before .before in
-    read-minus w32 (start .args .partial .now) (start .args .partial .now) (start .pre .2) (start .pre .2) (lit< tt)
-    (start .args .subbands / 2 + start .args .c) (5 * (start .args .subbands / 2) - start .args .c)
+    read-plus-signed w32 (start .args .partial .now) (start .pre .2) (lit< tt) (negsuc 0) (start .args .subbands / 2 + start .args .c)
+    (5 * (start .args .subbands / 2) - start .args .c) (lit≤ tt)
     ∙ sym (fold-far (start .args .subbands) (λ k. getD (start .args .partial .now) k (pos 0)) (start .args .c) (c .before .before .if1 .left)
     (c .before .if2 .left))
 
@@ -92,5 +96,6 @@ fold-spec =
     sub-result
     mul-result-3
     element-copy-out-result-2
-    sub-result-2
+    mul-result-4
+    add-result-2
     returns-3)

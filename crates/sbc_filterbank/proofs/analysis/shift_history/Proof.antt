@@ -1,7 +1,7 @@
 -- `sbc_filterbank::analysis::shift_history` meets its contract. The loop's invariant: from place k + S on the history is moved, and below it
 -- stands as it was.
 -- Assumes nothing.
-use Prim.Native.Nat.{_+_, _*_, _-_, _≤_}
+use Prim.Native.Nat.{_+_, _-_, _≤_}
 use mathlib.Core.Path.{_≡_}
 use native.Mathlib.Omega.{arith}
 use lib.ListN.{length, getD}
@@ -14,35 +14,32 @@ use Rattle.sbc_filterbank.proofs.analysis.shift_history.Statement.{stat
 use Rattle.sbc_filterbank.proofs.analysis.shift_history.Tie as tie
 
 abbrev Inv-loop : tie.InvT-loop
-Inv-loop history₀ subbands k₀ history k =
-    (k ≤ 9 * subbands) × (history ≡ build (length history₀) (joinAt (k + subbands) (λ i. getD history₀ i (pos 0)) (movedUp subbands history₀)))
+Inv-loop history₀ subbands count k₀ history k =
+    (k ≤ count) × (history ≡ build (length history₀) (joinAt (k + subbands) (λ i. getD history₀ i (pos 0)) (movedUp subbands count history₀)))
 
 abbrev μ-loop : tie.MeasureT-loop
-μ-loop history₀ subbands k₀ history k = k
-
-mul-k : tie.Need-mul-k Inv-loop μ-loop
-mul-k c = omega (arith, bands-le (c .pre))
+μ-loop history₀ subbands count k₀ history k = k
 
 loop-holds : tie.Need-loop-holds Inv-loop μ-loop
-loop-holds c = (omega arith, none-moved (c .args .history .now) (c .args .subbands) _ (omega arith))
+loop-holds c = (omega arith, none-moved (c .args .history .now) (c .args .subbands) (c .args .count))
 
 sub-k : tie.Need-sub-k Inv-loop μ-loop
 sub-k c = omega arith
 
 mul-history : tie.Need-mul-history Inv-loop μ-loop
-mul-history c = omega (arith, bands-le (c .before .before .pre))
+mul-history c = omega (arith, bands-le (c .before .before .pre .0))
 
 element-copy-out-history : tie.Need-element-copy-out-history Inv-loop μ-loop
-element-copy-out-history c = omega (arith, bands-le (c .before .before .pre))
+element-copy-out-history c = omega (arith, bands-le (c .before .before .pre .0))
 
-add-t9 : tie.Need-add-t9 Inv-loop μ-loop
-add-t9 c = omega (arith, bands-le (c .before .before .before .pre))
+add-t10 : tie.Need-add-t10 Inv-loop μ-loop
+add-t10 c = omega (arith, bands-le (c .before .before .before .pre .0))
 
-mul-t10 : tie.Need-mul-t10 Inv-loop μ-loop
-mul-t10 c = omega (arith, bands-le (c .before .before .before .pre))
+mul-t11 : tie.Need-mul-t11 Inv-loop μ-loop
+mul-t11 c = omega (arith, bands-le (c .before .before .before .pre .0))
 
 element-set-from-history : tie.Need-element-set-from-history Inv-loop μ-loop
-element-set-from-history c = omega (arith, bands-le (c .before .before .before .pre))
+element-set-from-history c = omega (arith, bands-le (c .before .before .before .pre .0))
 
 loop-less : tie.Need-loop-less Inv-loop μ-loop
 loop-less c = omega arith
@@ -52,7 +49,7 @@ loop-again c =
     let start = c .before .before .before in
     let turn = c .before .before .loop in (
       omega arith,
-      moved-step (start .args .subbands) (start .args .history .now) (turn .history) (turn .k - 1) (turn .k) (omega arith) (omega arith)
+      moved-step (start .args .subbands) (start .args .count) (start .args .history .now) (turn .history) (turn .k - 1) (turn .k) (omega arith) (omega arith)
           (turn .inv .1) (c .history .given),
     )
 
@@ -65,13 +62,12 @@ shift-history-spec =
     (tie.spec
     Inv-loop
     μ-loop
-    mul-k
     loop-holds
     sub-k
     mul-history
     element-copy-out-history
-    add-t9
-    mul-t10
+    add-t10
+    mul-t11
     element-set-from-history
     loop-less
     loop-again

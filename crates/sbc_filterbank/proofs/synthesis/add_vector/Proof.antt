@@ -1,25 +1,26 @@
 -- `sbc_filterbank::synthesis::add_vector` meets its contract. The loop's invariant: the places before j hold the sums with one term more,
 -- within their bound, and the others 0.
 -- Assumes nothing.
-use Prim.Native.Nat.{ℕ, _+_, _*_, _-_, _≤_, _<_}
+use Prim.Native.Nat.{ℕ, _+_, _*_, _-_, _^_, _≤_, _<_}
 use mathlib.Core.Path.{_≡_, _∙_, sym, ap, subst}
 use mathlib.Core.List.{List}
 use native.Mathlib.Nat.{le-of-lt}
 use native.Mathlib.Omega.{arith}
+use lib.Dec.{lit<}
 use lib.IntN.{ℤ, pos, natAbs, _+ℤ_, _*ℤ_}
 use lib.ListN.{getD, length}
 use mir.Syntax.{w32, w64}
 use mir.Val.{toZ, ofZ}
-use Rattle.laws.specs.Integers.{Within}
+use mir.Facts.{toZ-ofZ}
 use Rattle.laws.specs.Lists.{build}
 use Rattle.laws.specs.Sums.{sumZ, upTo}
-use Rattle.laws.proofs.Arrays.{fill-none, filled, stored, getD-filled, within-upTo}
+use Rattle.laws.proofs.Arrays.{fill-none, filled, stored}
 use Rattle.sbc_filterbank.specs.Subbands.{prototypeAt}
 use Rattle.sbc_filterbank.specs.Synthesis.{sampleTerm, vectorAt, vectorPlace}
 use Rattle.sbc_filterbank.specs.Ring.{ring}
-use Rattle.sbc_filterbank.specs.Fold.{termBound}
-use Rattle.sbc_filterbank.proofs.Bands.{bands-le, prototype-length, tap-bound}
-use Rattle.sbc_filterbank.proofs.Bounds.{read-sum, more-is, more-small, more-fits, all-next}
+use Rattle.sbc_filterbank.specs.Fold.{tapSum}
+use Rattle.sbc_filterbank.proofs.Bands.{bands-le, prototype-length, tap-sum-bound}
+use Rattle.sbc_filterbank.proofs.Bounds.{SampleSummed, sample-summed, summed-next, summed-fits, read-small, all-next}
 use Rattle.sbc_filterbank.proofs.Ring.{ring-at}
 use Rattle.sbc_filterbank.proofs.Blocks.{place-in-below, tap-below}
 use Rattle.sbc_filterbank.proofs.synthesis.add_vector.Statement.{statement}
@@ -32,7 +33,7 @@ summed S values newest b j = sumZ (b + 1) (sampleTerm S (ring S values newest) j
 abbrev Inv-loop : tie.InvT-loop
 Inv-loop sums values taps newest subbands b more₀ j₀ more j =
     (j ≤ subbands) × (more ≡ build 8 (upTo j (summed subbands values newest b)))
-    × ((i : ℕ) → i < j → natAbs (summed subbands values newest b i) ≤ (b + 1) * termBound)
+    × ((i : ℕ) → i < j → natAbs (summed subbands values newest b i) ≤ tapSum subbands (b + 1) i * 2 ^ 31)
 
 abbrev μ-loop : tie.MeasureT-loop
 μ-loop sums values taps newest subbands b more₀ j₀ more j = subbands - j
@@ -77,7 +78,7 @@ mul-multiply-add-4 c = omega (arith, c .before .before .place .ensures .1)
 element-copy-out-multiply-add-2 : tie.Need-element-copy-out-multiply-add-2 Inv-loop μ-loop
 element-copy-out-multiply-add-2 c = c .before .before .place .ensures .1
 
--- what the turn reads: a sum so far, and the ring at the place
+-- what the turn reads, the ring at the place and a sum so far, and the sum with one term more
 module _ (c : tie.After-multiply-add-arg3 Inv-loop μ-loop) where
   abbrev start : tie.Start Inv-loop μ-loop
   start = c .before .before .before .before .before .before
@@ -91,41 +92,32 @@ module _ (c : tie.After-multiply-add-arg3 Inv-loop μ-loop) where
   abbrev held : ℤ
   held = getD (start .args .values .now) (c .before .before .before .place .result) (pos 0)
 
-  read : toZ w64 (ofZ w64 (getD (start .args .sums .now) j (pos 0))) ≡ getD (start .args .sums .now) j (pos 0)
-  read = read-sum (start .args .b) (start .args .sums .now) (le-of-lt (start .pre .2)) (start .pre .4 .1) j
-
-  so-far : toZ w64 (ofZ w64 (getD (start .args .sums .now) j (pos 0))) ≡ sumZ (start .args .b) (sampleTerm (start .args .subbands) vectors j)
-  so-far =
-      read ∙ getD-filled 8 (start .args .subbands) _ (start .args .sums .now) j (start .pre .4 .0) (c .before .before .before .before .loop-test .taken)
-      (bands-le (start .pre .0))
+  below : j < start .args .subbands
+  below = c .before .before .before .before .loop-test .taken
 
   held-is : held ≡ vectorAt vectors (start .args .b) (vectorPlace (start .args .subbands) j (start .args .b))
   held-is =
       ap (λ (n : ℕ). getD (start .args .values .now) n (pos 0)) (c .before .before .before .place .ensures .0)
       ∙ sym (ring-at (start .args .subbands) (start .args .values .now) (start .args .newest) (start .args .b) _ (start .pre .2)
-      (place-in-below (start .args .b) j (c .before .before .before .before .loop-test .taken)))
+      (place-in-below (start .args .b) j below))
 
-  small : natAbs (toZ w64 (ofZ w64 (getD (start .args .sums .now) j (pos 0)))) ≤ start .args .b * termBound
-  small = subst (λ (z : ℤ). natAbs z ≤ start .args .b * termBound) (sym read) (start .pre .4 .1 j)
+  so-far : SampleSummed (start .args .subbands) vectors j (start .args .b) (toZ w64 (ofZ w64 (getD (start .args .sums .now) j (pos 0))))
+  so-far =
+      let w = sample-summed vectors (start .args .sums .now) (start .pre .0) (start .args .b) j (start .pre .4) below in
+      subst (SampleSummed (start .args .subbands) vectors j (start .args .b))
+      (sym (toZ-ofZ (summed-fits w 10 700000000 (tap-sum-bound j (start .pre .0) below) (le-of-lt (start .pre .2)) (lit< tt)))) w
 
-  index : start .args .b * start .args .subbands + j < 10 * start .args .subbands
-  index = tap (c .before .before)
-
-  next : toZ w64 (ofZ w64 (getD (start .args .sums .now) j (pos 0)))
-      +ℤ toZ w32 (ofZ w32 (getD (start .args .taps .now) (start .args .b * start .args .subbands + j) (pos 0))) *ℤ toZ w32 (ofZ w32 held)
-      ≡ summed (start .args .subbands) (start .args .values .now) (start .args .newest) (start .args .b) j
+  next : SampleSummed (start .args .subbands) vectors j (start .args .b + 1)
+      (toZ w64 (ofZ w64 (getD (start .args .sums .now) j (pos 0)))
+      +ℤ toZ w32 (ofZ w32 (getD (start .args .taps .now) (start .args .b * start .args .subbands + j) (pos 0))) *ℤ toZ w32 (ofZ w32 held))
   unfolding prototypeAt
   next =
-      more-is (start .args .subbands) vectors j (start .args .b) _ _ held (tap-bound _ (start .pre .0) index) (c .multiply-add-arg3 .given) so-far held-is
-      small (c .before .multiply-add-arg2 .given) (ap (λ (l : List ℤ). getD l (start .args .b * start .args .subbands + j) (pos 0)) (start .pre .3))
-
-  next-small : natAbs (summed (start .args .subbands) (start .args .values .now) (start .args .newest) (start .args .b) j) ≤ (start .args .b + 1) * termBound
-  next-small =
-      more-small (start .args .subbands) vectors j (start .args .b) _ (pos 0) held (tap-bound _ (start .pre .0) index) (c .multiply-add-arg3 .given) so-far
-      held-is small
+      summed-next so-far _ held (c .before .multiply-add-arg2 .given) (c .multiply-add-arg3 .given)
+      (ap (λ (l : List ℤ). getD l (start .args .b * start .args .subbands + j) (pos 0)) (start .pre .3)) held-is
+      (read-small w32 held (c .multiply-add-arg3 .given))
 
 multiply-add-requires : tie.Need-multiply-add-requires Inv-loop μ-loop
-multiply-add-requires c κs = more-fits (start c .args .b) _ _ (start c .pre .2) (next c) (next-small c)
+multiply-add-requires c κs = summed-fits (next c) 10 700000000 (tap-sum-bound (j c) (start c .pre .0) (below c)) (omega (arith, start c .pre .2)) (lit< tt)
 
 mul-more : tie.Need-mul-more Inv-loop μ-loop
 mul-more c = omega (arith, bands-le (c .before .before .before .before .before .before .before .pre .0))
@@ -146,9 +138,10 @@ loop-again c =
       omega arith,
       stored w64 8 _ _ _ _ (record { sfits = c .multiply-add .ok })
           (omega (arith, bands-le (c .before .before .before .before .before .before .before .pre .0))) (turn .inv .1)
-          (c .multiply-add .ensures ∙ next (c .before)),
-      all-next (λ (i : ℕ). natAbs (summed (args .subbands) (args .values .now) (args .newest) (args .b) i) ≤ (args .b + 1) * termBound) (turn .j)
-          (turn .inv .2) (next-small (c .before)),
+          (c .multiply-add .ensures ∙ next (c .before) .is),
+      all-next
+          (λ (i : ℕ). natAbs (summed (args .subbands) (args .values .now) (args .newest) (args .b) i) ≤ tapSum (args .subbands) (args .b + 1) i * 2 ^ 31)
+          (turn .j) (turn .inv .2) (next (c .before) .small),
     )
 
 returns : tie.Need-returns Inv-loop μ-loop
@@ -156,11 +149,7 @@ returns c =
     let args = c .before .before .args in
     let turn = c .before .loop in
     let sums = summed (args .subbands) (args .values .now) (args .newest) (args .b) in
-    let e = filled 8 (turn .j) (args .subbands) sums (turn .more) (omega arith) (omega arith) (turn .inv .1) in (
-      e,
-      subst (Within ((args .b + 1) * termBound)) (sym e)
-          (within-upTo 8 (args .subbands) ((args .b + 1) * termBound) sums (λ k h. turn .inv .2 k (omega arith))),
-    )
+    (filled 8 (turn .j) (args .subbands) sums (turn .more) (omega arith) (omega arith) (turn .inv .1), λ k h. turn .inv .2 k (omega arith))
 
 pub add-vector-spec : {M : Type 1} → statement M
 add-vector-spec =

@@ -1,10 +1,10 @@
 -- `sbc_filterbank::synthesis::output` meets its contract. The loop's invariant: the places before j hold the definition's outputs, and the
 -- others 0.
 -- Assumes nothing.
-use Prim.Native.Nat.{_*_, _-_, _≤_}
+use Prim.Native.Nat.{_-_, _≤_}
 use mathlib.Core.Path.{_≡_, _∙_, sym, ap, subst}
-use native.Mathlib.Nat.{le-refl}
 use native.Mathlib.Omega.{arith}
+use lib.Dec.{lit<}
 use lib.IntN.{ℤ, pos, natAbs}
 use lib.ListN.{getD}
 use mir.Syntax.{w16, w64}
@@ -13,9 +13,9 @@ use Rattle.laws.specs.Lists.{build}
 use Rattle.laws.specs.Sums.{upTo}
 use Rattle.laws.proofs.Arrays.{fill-none, filled, stored}
 use Rattle.sbc_filterbank.specs.Synthesis.{rounded}
-use Rattle.sbc_filterbank.specs.Fold.{termBound}
+use Rattle.sbc_filterbank.specs.Fold.{outputBound}
 use Rattle.sbc_filterbank.proofs.Bands.{bands-le}
-use Rattle.sbc_filterbank.proofs.Bounds.{read-sum}
+use Rattle.sbc_filterbank.proofs.Words.{read-entry}
 use Rattle.sbc_filterbank.proofs.synthesis.output.Statement.{statement}
 use Rattle.sbc_filterbank.proofs.synthesis.output.Tie as tie
 
@@ -37,11 +37,11 @@ element-copy-out-round c = omega (arith, bands-le (c .before .before .pre .0))
 sum : (c : tie.After-round-arg Inv-loop μ-loop)
     → let xs = c .before .before .before .args .sums .now in let j = c .before .before .loop .j in
     toZ w64 (ofZ w64 (getD xs j (pos 0))) ≡ getD xs j (pos 0)
-sum c = let start = c .before .before .before in read-sum 10 (start .args .sums .now) (le-refl 10) (start .pre .1) (c .before .before .loop .j)
+sum c = let start = c .before .before .before in read-entry w64 (start .args .sums .now) (start .pre .1) (lit< tt) (c .before .before .loop .j)
 
 round-requires : tie.Need-round-requires Inv-loop μ-loop
 round-requires c κs =
-    subst (λ (z : ℤ). natAbs z ≤ 10 * termBound) (sym (sum c)) (c .before .before .before .pre .1 (c .before .before .loop .j))
+    subst (λ (z : ℤ). natAbs z ≤ outputBound) (sym (sum c)) (c .before .before .before .pre .1 (c .before .before .loop .j))
 
 mul-out : tie.Need-mul-out Inv-loop μ-loop
 mul-out c = omega (arith, bands-le (c .before .before .before .before .pre .0))

@@ -10,6 +10,7 @@ use Rattle.sbc_filterbank.specs.Subbands.{cosineAt}
 use Rattle.sbc_filterbank.specs.Synthesis.{synthesisCosine}
 use Rattle.sbc_filterbank.specs.Fold.{synthesisRows}
 use Rattle.sbc_filterbank.proofs.Blocks.{block-of}
+use Rattle.sbc_filterbank.proofs.Bounds.{output-sums-within}
 use Rattle.sbc_filterbank.proofs.Rows.{pairs-within, rows-within}
 use borrow.Author.Needs.{needs}
 use Rattle.sbc_filterbank.proofs.synthesis.synthesize4.Statement.{statement}
@@ -60,7 +61,7 @@ sums4-requires c κs =
     (omega (arith, c .before .before .before .before .before .before .before .before .before .before .before .advance .ensures), refl)
 
 output-requires : tie.Need-output-requires
-output-requires c κs = (inl refl, c .before .sums4 .ensures .1)
+output-requires c κs = (inl refl, output-sums-within _ _ (inl refl) (c .before .sums4 .ensures))
 
 returns : tie.Need-returns
 returns c =
