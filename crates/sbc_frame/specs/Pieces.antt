@@ -12,8 +12,14 @@ use Rattle.laws.specs.Choice.{if_then_else_}
 use Rattle.laws.specs.Lists.{collect, build, greatest}
 use Rattle.laws.specs.Bits.{digit, bitsOf, bitsOfBytes, bytesOf}
 use Rattle.laws.specs.Integers.{floorDiv}
+use Rattle.crc8.specs.Checksum.{checksum}
+use Rattle.sbc_parameters.specs.Parameters.{channels}
+use Rattle.sbc_parameters.specs.Sizes.{joinCount, sideBits, frameLength}
+use Rattle.sbc_parameters.specs.Header.{header}
+use Rattle.sbc_parameters.specs.declared.SbcParameters.{SbcParameters}
+use Rattle.sbc_allocation.specs.Allocate.{allocationTable}
 use Rattle.sbc_quantizer.specs.Quantizing.{scaleFactor, quantize}
-use Rattle.sbc_frame.specs.Encoding.{sampleAt}
+use Rattle.sbc_frame.specs.Encoding.{sampleAt, factorOf, isJoined, codedAt}
 use Rattle.sbc_frame.specs.Parts.{sampleIn, entry}
 use Rattle.sbc_frame.specs.declared.writing.Writer.{Writer}
 
@@ -78,3 +84,33 @@ valueBitsOf left right left-widths right-widths left-factors right-factors n =
 -- bits as bytes, with zeros behind them
 unfoldable pub filled : ℕ → List Bool → List ℕ
 filled size bits = bytesOf size (bits ++ replicate (8 * size - length bits) false)
+
+-- ---- a frame
+
+-- what is coded of a frame with these samples of its channels: join flags, scale factors and samples
+pub record CodingIn (p : SbcParameters) (samples : ℕ → List (List ℤ)) (flags left-factors right-factors : List ℕ) (left right : List ℤ) : Type 0 where
+  pub flag-is : (s : ℕ) → s < 8 → entry flags s ≡ digit (isJoined p samples s)
+  pub factor-is : (c s : ℕ) → c < channels p → s < 8
+      → entry (getD (left-factors ∷ right-factors ∷ []) c []) s ≡ factorOf p (λ b. codedAt p samples b c s)
+  pub sample-is : (b c s : ℕ) → b < p .blocks → c < channels p → s < 8 → sampleIn (getD (left ∷ right ∷ []) c []) b s ≡ codedAt p samples b c s
+  pub left-small : (s : ℕ) → entry left-factors s ≤ 15
+  pub right-small : (s : ℕ) → entry right-factors s ≤ 15
+
+-- the samples that the channels have, in two arrays
+abbrev pub ChannelsIn : SbcParameters → (ℕ → List (List ℤ)) → List ℤ → List ℤ → Type 0
+ChannelsIn p samples left right = (c : ℕ) → c < channels p → SamplesIn (p .blocks) (samples c) (getD (left ∷ right ∷ []) c [])
+
+-- the bits of its body
+unfoldable pub codingBits : SbcParameters → List ℕ → List ℕ → List ℕ → List ℤ → List ℤ → List Bool
+codingBits p flags left-factors right-factors left right =
+    let widths = allocationTable p (left-factors ∷ right-factors ∷ []) in
+    rowBits flags 1 (joinCount p)
+    ++ (rowBits left-factors 4 (p .subbands)
+    ++ (rowBits right-factors 4 (p .subbands * (channels p - 1))
+    ++ valueBitsOf left right (getD widths 0 []) (getD widths 1 []) left-factors right-factors (p .blocks)))
+
+-- and its bytes: header, checksum, body
+unfoldable pub codingBytes : SbcParameters → List ℕ → List ℕ → List ℕ → List ℤ → List ℤ → List ℕ
+codingBytes p flags left-factors right-factors left right =
+    let rest = filled (frameLength p - 4) (codingBits p flags left-factors right-factors left right) in
+    header p ++ (checksum (header p ++ (0 ∷ rest)) (sideBits p) ∷ rest)

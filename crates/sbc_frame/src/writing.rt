@@ -35,7 +35,7 @@ fn put(bytes: &mut [u8], writer: Writer, value: u32, count: u32) -> Writer
 }
 
 // The bits that do not fill a byte, with zeros behind them.
-fn finish(bytes: &mut [u8], writer: Writer)
+pub fn finish(bytes: &mut [u8], writer: Writer)
     requires { ⌜ (Ready (length (now bytes)) writer) × (8 * length (now bytes) < 8 * writer .at + writer .held + 8) ⌝ }
     ensures { λ _. ⌜ now (bytes .exit) ≡ filled (length (now (bytes .entry))) (bitsIn (now (bytes .entry)) writer) ⌝ }
 {
