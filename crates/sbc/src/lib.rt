@@ -1,7 +1,8 @@
 // The SBC and mSBC encoder and decoder: their states, what their calls give back, and the decoder's calls. The definitions of all calls stand
-// in specs/; the encoder's code comes with its landing.
+// in specs/.
 use sbc_filterbank::Synthesis;
 use sbc_frame::decode_frame;
+use sbc_frame::encode_frame;
 use sbc_parameters::Error;
 use sbc_parameters::Parsed;
 use sbc_parameters::SbcParameters;
@@ -9,7 +10,7 @@ use sbc_parameters::Validated;
 ghost use mathlib.Core.Path.{_≡_};
 ghost use mathlib.Core.Bool.{true};
 ghost use mathlib.Core.List.{_++_};
-ghost use Prim.Native.Nat.{_-_, _≤_, min};
+ghost use Prim.Native.Nat.{_-_, _*_, _≤_, min};
 ghost use lib.ListN.{length, take, drop};
 ghost use Rattle.laws.specs.Answers.{gives};
 ghost use Rattle.sbc_parameters.specs.Errors.{errorNumber};
@@ -19,7 +20,8 @@ ghost use Rattle.sbc_parameters.specs.Sizes.{frameLength, frameSamples};
 ghost use Rattle.sbc_frame.specs.Layout.{unpack};
 ghost use Rattle.sbc.specs.Decode.{cleared, play, newDecoder, finish, whole, lookBehind, look, startHistories, refused, shortStep, turnAt, decodeNext, answerOf, decode};
 ghost use Rattle.sbc.specs.Answers.{toldCoded, progressOf};
-ghost use Rattle.sbc.specs.Told.{toldFront, toldOutcome, toldTurn, toldDecoded};
+ghost use Rattle.sbc.specs.Told.{toldFront, toldOutcome, toldTurn, toldDecoded, toldCreated, toldEncoded, encoderWith};
+ghost use Rattle.sbc.specs.Encode.{encoderOf, newEncoder, resetEncoder, encoderAfter, encodedFrames, packAll, encode};
 ghost use Rattle.sbc.specs.Seek.{toldSought, reset, resumed, seekFirst, seekFrom, seek};
 
 // The blocks that the synthesis filterbank remembers.
@@ -97,6 +99,19 @@ pub struct SbcEncoder {
     pub parameters: SbcParameters,
     // By channel.
     pub analysis: [Analysis; 2],
+}
+
+// What a new encoder gives back: whether its parameters are accepted, and the encoder. One with other parameters answers every encode call with
+// InvalidParameter.
+pub struct Created {
+    pub outcome: Validated,
+    pub encoder: SbcEncoder,
+}
+
+// What an encode call gives back, and the encoder after it.
+pub struct EncodeResult {
+    pub answer: Coded,
+    pub encoder: SbcEncoder,
 }
 
 // Where to go on feeding bytes after a seek, and the samples of each channel that the decoder then drops.
@@ -368,6 +383,106 @@ impl SbcDecoder {
             finishing: false,
             skip,
         }
+    }
+}
+
+impl SbcEncoder {
+    // An encoder with silence in both channels: InvalidParameter where the parameters are not accepted.
+    pub fn new(parameters: SbcParameters) -> Created
+        ensures created { λ r. ⌜ toldCreated r ≡ newEncoder parameters ⌝ }
+        ensures encoder { λ r. ⌜ r .encoder ≡ encoderOf parameters ⌝ }
+    {
+        Created {
+            outcome: parameters.validate(),
+            encoder: silent_encoder(parameters),
+        }
+    }
+
+    pub fn parameters(self) -> SbcParameters
+        ensures { λ r. ⌜ r ≡ self .parameters ⌝ }
+    {
+        self.parameters
+    }
+
+    // Silence again; the parameters stay.
+    pub fn reset(self) -> SbcEncoder
+        ensures { λ r. ⌜ r ≡ resetEncoder self ⌝ }
+    {
+        silent_encoder(self.parameters)
+    }
+
+    // Encodes as many frames as both buffers hold. An output under one frame is BufferTooSmall, even with no input.
+    pub fn encode(self, input: &[i16], output: &mut [u8]) -> EncodeResult
+        ensures { λ r. ⌜ toldEncoded r (now (output .exit)) ≡ encode self (now (input .entry)) (now (output .entry)) ⌝ }
+    {
+        let parameters = self.parameters;
+        match parameters.validate() {
+            Validated::Accepted => self.encode_accepted(input, output),
+            Validated::Refused(error) => EncodeResult {
+                answer: Coded::Refused(error),
+                encoder: self,
+            },
+        }
+    }
+
+    fn encode_accepted(self, input: &[i16], output: &mut [u8]) -> EncodeResult
+        requires { ⌜ accepted (self .parameters) ≡ true ⌝ }
+        ensures { λ r. ⌜ toldEncoded r (now (output .exit)) ≡ encode self (now (input .entry)) (now (output .entry)) ⌝ }
+    {
+        let parameters = self.parameters;
+        let samples = parameters.frame_samples();
+        let length = parameters.frame_length();
+        if output.len() < length {
+            return EncodeResult {
+                answer: Coded::Refused(Error::BufferTooSmall),
+                encoder: self,
+            };
+        }
+        let count = least(input.len() / samples, output.len() / length);
+        let first = self.analysis[0];
+        let second = self.analysis[1];
+        let mut left = first.history;
+        let mut right = second.history;
+        encode_frames(parameters, &mut left, &mut right, input, output, count);
+        EncodeResult {
+            answer: Coded::Done(Progress {
+                consumed: count * samples,
+                produced: count * length,
+            }),
+            encoder: SbcEncoder {
+                parameters,
+                analysis: [Analysis { history: left }, Analysis { history: right }],
+            },
+        }
+    }
+}
+
+fn silent_encoder(parameters: SbcParameters) -> SbcEncoder
+    ensures { λ r. ⌜ r ≡ encoderOf parameters ⌝ }
+{
+    SbcEncoder {
+        parameters,
+        analysis: [Analysis { history: [0i16; 80] }, Analysis { history: [0i16; 80] }],
+    }
+}
+
+// So many frames, one after the other. The histories are altered where the caller has them.
+fn encode_frames(
+    parameters: SbcParameters,
+    left: &mut [i16; 80],
+    right: &mut [i16; 80],
+    input: &[i16],
+    output: &mut [u8],
+    count: usize,
+)
+    requires { ⌜ (accepted parameters ≡ true) × (count * frameSamples parameters ≤ length (now input)) × (count * frameLength parameters ≤ length (now output)) ⌝ }
+    ensures encoder { λ _. ⌜ encoderWith parameters (now (left .exit)) (now (right .exit)) ≡ encoderAfter count (encoderWith parameters (now (left .entry)) (now (right .entry))) (now (input .entry)) ⌝ }
+    ensures output { λ _. ⌜ now (output .exit) ≡ packAll parameters (encodedFrames count (encoderWith parameters (now (left .entry)) (now (right .entry))) (now (input .entry))) ++ drop (count * frameLength parameters) (now (output .entry)) ⌝ }
+{
+    let samples = parameters.frame_samples();
+    let length = parameters.frame_length();
+    for i in 0..count {
+        encode_frame(parameters, left, right, &input[i * samples..], &mut output[i * length..(i + 1) * length]);
     }
 }
 
