@@ -53,6 +53,12 @@ module _ (S : ℕ) where
       ≡ analyzeBlocks n S X pcm ++ (analysisOutputs S (shifted S (analysisAfter n S X pcm) (take S (drop (n * S) pcm))) ∷ [])
   analyze-next n X pcm = rw (add-one, ← after-suc) (analyze-suc n X pcm)
 
+  -- n blocks are given
+  pub length-analyzeBlocks : (n : ℕ) (X pcm : List ℤ) → length (analyzeBlocks n S X pcm) ≡ n
+  unfolding analyzeBlocks
+  length-analyzeBlocks zero X pcm = refl
+  length-analyzeBlocks (suc n) X pcm = ap suc (length-analyzeBlocks n (shifted S X (take S pcm)) (drop S pcm))
+
   -- ---- synthesis
   -- one block more moves the history
   pub synthesis-after-next : (h : Synthesis) (ss : List (List ℤ)) (s : List ℤ)

@@ -4,6 +4,7 @@
 use Prim.Native.Nat.{ℕ, zero, suc, _+_, _*_, _/_, _%_, _^_, _≤_, _<_}
 use mathlib.Core.Bool.{Bool, true, false}
 use mathlib.Core.Path.{_≡_, refl, sym, ap, ap₂, _∙_, subst}
+use mathlib.Core.Logic.{⊎-elim}
 use mathlib.Core.List.{List, [], _∷_, _++_}
 use native.Mathlib.Nat.{not-suc-le-zero, le-of-suc-le-suc, zero-mul, suc-mul, mul-comm, mod-lt}
 use native.Mathlib.Numerals.{add-one}
@@ -39,6 +40,10 @@ use Rattle.sbc_frame.proofs.Blocks.{synthesis-after-next, synthesize-ne
 use Rattle.sbc_frame.proofs.Weaving.{placed-none, placed-ext, placed-behind, woven, woven-none, woven-is}
 
 -- ---- a block
+-- not 4 subbands are 8
+pub eight : {S : ℕ} → Bands S → (S ≡ 4 → ⊥) → S ≡ 8
+eight b ne = ⊎-elim (λ e. absurd (ne e)) (λ e. e) b
+
 -- eight samples within a bound
 pub row-within : (b : ℕ) (f : ℕ → ℤ) (input : List ℤ) → input ≡ build 8 f → ((s : ℕ) → s < 8 → natAbs (f s) ≤ b) → Within b input
 unfolding collect build

@@ -2,13 +2,13 @@
 use sbc_filterbank::analyze4;
 use sbc_filterbank::analyze8;
 ghost use mathlib.Core.Path.{_≡_};
-ghost use Prim.Native.Nat.{ℕ, _+_, _*_, _≤_, _<_};
-ghost use lib.ListN.{length, getD, take, drop};
+ghost use Prim.Native.Nat.{_+_, _*_, _≤_, _<_};
+ghost use lib.ListN.{length, getD};
 ghost use lib.IntN.{pos};
 ghost use Rattle.laws.specs.Lists.{build};
 ghost use Rattle.laws.specs.Sums.{upTo, overwrite};
 ghost use Rattle.sbc_filterbank.specs.Analysis.{shifted, analysisOutputs};
-ghost use Rattle.sbc_filterbank.specs.Subbands.{Bands};
+ghost use Rattle.sbc_filterbank.specs.Subbands.{Bands, padded};
 ghost use Rattle.sbc_frame.specs.Channels.{analyzeBlocks, analysisAfter};
 ghost use Rattle.sbc_frame.specs.Pieces.{pcmIn, SamplesIn};
 
@@ -44,8 +44,8 @@ fn analyze_block(
     channels: usize,
 ) -> [i32; 8]
     requires { ⌜ (Bands subbands) × (block < 16) × (channel < channels) × (channels ≤ 2) × ((block + 1) * subbands * channels ≤ length (now input)) ⌝ }
-    ensures history { λ r. ⌜ now (history .exit) ≡ shifted subbands (now (history .entry)) (take subbands (drop (block * subbands) (pcmIn channels channel ((block + 1) * subbands) (now (input .entry))))) ⌝ }
-    ensures outputs { λ r. ⌜ ((s : ℕ) → getD r s (pos 0) ≡ getD (analysisOutputs subbands (now (history .exit))) s (pos 0)) ⌝ }
+    ensures history { λ r. ⌜ now (history .exit) ≡ shifted subbands (now (history .entry)) (build subbands (λ j. getD (now (input .entry)) ((block * subbands + j) * channels + channel) (pos 0))) ⌝ }
+    ensures outputs { λ r. ⌜ r ≡ padded (analysisOutputs subbands (now (history .exit))) ⌝ }
 {
     if subbands == 4 {
         let pcm = pcm_block(input, 4 * block, 4, channel, channels);

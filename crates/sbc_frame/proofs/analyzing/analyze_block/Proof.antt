@@ -1,43 +1,51 @@
+-- `sbc_frame::analyzing::analyze_block` meets its contract: a block of the definition, for 4 and for 8 subbands.
+-- Assumes nothing.
+use mathlib.Core.Path.{refl}
+use mathlib.Core.Logic.{inl, inr}
+use native.Mathlib.Omega.{arith}
 use borrow.Author.Needs.{needs}
+use Rattle.sbc_frame.proofs.Played.{eight, block-room}
+use Rattle.sbc_frame.proofs.Analyzed.{block-analyzed}
 use Rattle.sbc_frame.proofs.analyzing.analyze_block.Statement.{statement}
 use Rattle.sbc_frame.proofs.analyzing.analyze_block.Tie as tie
-use Rattle.sbc_frame.proofs.analyzing.analyze_block.Reads as reads
-use Rattle.sbc_frame.proofs.analyzing.analyze_block.Lts as lts
-use Rattle.sbc_filterbank.proofs.analyze4.Reads as analyze4-reads
-use Rattle.sbc_filterbank.proofs.analyze8.Reads as analyze8-reads
-use Rattle.sbc_frame.proofs.analyzing.pcm_block.Reads as pcm-block-reads
 
--- src/analyzing.rt:51:36
 mul-pcm-block : tie.Need-mul-pcm-block
 mul-pcm-block c = search needs
 
--- src/analyzing.rt:51:19
 pcm-block-requires : tie.Need-pcm-block-requires
-pcm-block-requires c κs = ?
+pcm-block-requires c κs =
+    let start = c .before in
+    (omega arith, start .pre .2, start .pre .3, block-room 4 _ (start .args .block) _ _ (c .if1 .taken) (start .pre .4))
 
--- src/analyzing.rt:52:9
 analyze4-requires : tie.Need-analyze4-requires
 analyze4-requires c κs = search needs
 
--- src/analyzing.rt:52:9
 returns : tie.Need-returns
-returns c = ?
+returns c =
+    let read = c .before .before .before in
+    let start = read .before .before in
+    let a = start .args in
+    block-analyzed (a .channels) (a .channel) (a .block) (a .history .now) (a .input .now) _ _ _ (inl refl) (read .pcm-block .ensures)
+    (c .analyze4 .ensures .0) (c .analyze4 .ensures .1 .0) (a .subbands) (read .before .if1 .taken)
 
--- src/analyzing.rt:54:32
 mul-pcm-block-2 : tie.Need-mul-pcm-block-2
 mul-pcm-block-2 c = search needs
 
--- src/analyzing.rt:54:15
 pcm-block-requires-2 : tie.Need-pcm-block-requires-2
-pcm-block-requires-2 c κs = ?
+pcm-block-requires-2 c κs =
+    let start = c .before in
+    (omega arith, start .pre .2, start .pre .3, block-room 8 _ (start .args .block) _ _ (eight (start .pre .0) (c .if1 .left)) (start .pre .4))
 
--- src/analyzing.rt:55:5
 analyze8-requires : tie.Need-analyze8-requires
 analyze8-requires c κs = search needs
 
--- src/analyzing.rt:38:1
 returns-2 : tie.Need-returns-2
-returns-2 c = ?
+returns-2 c =
+    let read = c .before .before .before in
+    let start = read .before .before in
+    let a = start .args in
+    block-analyzed (a .channels) (a .channel) (a .block) (a .history .now) (a .input .now) _ _ _ (inr refl) (read .pcm-block2 .ensures)
+    (c .analyze8 .ensures .0) (c .analyze8 .ensures .1 .0) (a .subbands) (eight (start .pre .0) (read .before .if1 .left))
 
 pub analyze-block-spec : {M : Type 1} → statement M
 analyze-block-spec =

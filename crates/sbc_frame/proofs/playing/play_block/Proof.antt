@@ -1,19 +1,14 @@
 -- `sbc_frame::playing::play_block` meets its contract: a block of the definition, for 4 and for 8 subbands.
 -- Assumes nothing.
-use Prim.Native.Nat.{ℕ, _^_}
-use mathlib.Core.Path.{_≡_, refl}
-use mathlib.Core.Logic.{inl, inr, ⊎-elim}
+use Prim.Native.Nat.{_^_}
+use mathlib.Core.Path.{refl}
+use mathlib.Core.Logic.{inl, inr}
 use native.Mathlib.Omega.{arith}
 use borrow.Author.Needs.{needs}
-use Rattle.sbc_filterbank.specs.Subbands.{Bands}
 use Rattle.sbc_frame.specs.Parts.{sampleIn}
-use Rattle.sbc_frame.proofs.Played.{row-within, block-room, block-played}
+use Rattle.sbc_frame.proofs.Played.{eight, row-within, block-room, block-played}
 use Rattle.sbc_frame.proofs.playing.play_block.Statement.{statement}
 use Rattle.sbc_frame.proofs.playing.play_block.Tie as tie
-
--- not 4 subbands are 8
-eight : {S : ℕ} → Bands S → (S ≡ 4 → ⊥) → S ≡ 8
-eight b ne = ⊎-elim (λ e. absurd (ne e)) (λ e. e) b
 
 block-of-requires : tie.Need-block-of-requires
 block-of-requires c κs = search needs
