@@ -462,7 +462,14 @@ fn silent_encoder(parameters: SbcParameters) -> SbcEncoder
 {
     SbcEncoder {
         parameters,
-        analysis: [Analysis { history: [0i16; 80] }, Analysis { history: [0i16; 80] }],
+        analysis: [
+            Analysis {
+                history: [0i16; 80],
+            },
+            Analysis {
+                history: [0i16; 80],
+            },
+        ],
     }
 }
 
@@ -482,7 +489,13 @@ fn encode_frames(
     let samples = parameters.frame_samples();
     let length = parameters.frame_length();
     for i in 0..count {
-        encode_frame(parameters, left, right, &input[i * samples..], &mut output[i * length..(i + 1) * length]);
+        encode_frame(
+            parameters,
+            left,
+            right,
+            &input[i * samples..],
+            &mut output[i * length..(i + 1) * length],
+        );
     }
 }
 

@@ -37,7 +37,7 @@ use Rattle.sbc_frame.specs.Fields.{Fields, joinAt, factorAt, valueAt, wi
 use Rattle.sbc_frame.specs.Layout.{factorPosition, valuePosition, readJoin, readFactors, readValues, unpack}
 use Rattle.sbc_frame.specs.Decoding.{reconstructedAt, decodedAt}
 use Rattle.sbc_frame.specs.Parts.{below, rowAt, flagRow, leftFactors, rightFactors, valueOf, sampleIn, Small, entry, ChannelIn, FrameIn}
-use Rattle.sbc_frame.proofs.Widths.{block-width}
+use Rattle.sbc_frame.proofs.Widths.{Enough, block-width, allocate-agree, table-width, row-width, rows-width}
 use Rattle.sbc_frame.proofs.Positions.{flags-inside, factor-inside, value-inside, frame-room}
 use Rattle.sbc_frame.proofs.Reading.{enough-factors, read-value}
 
@@ -69,25 +69,6 @@ row-small bytes position count s h8 = go (ltb s count) refl
     go true e =
         rw (row-entry bytes position 4 count s (ltb-true s count e) h8) (omega (arith, number-at-lt bytes (position + s * 4) 4))
     go false e = rw (row-rest bytes position 4 count s (ltb-false s count e)) (omega arith)
-
--- ---- a sum whose terms from n on are 0
-total-rest : (n m : ℕ) (w : ℕ → ℕ) → n ≤ m → ((i : ℕ) → n ≤ i → i < m → w i ≡ 0) → total m w ≡ total n w
-unfolding total
-total-rest n zero w h z = let e : n ≡ 0 = omega arith in rw e
-total-rest n (suc m) w h z = go (eq-or-lt-of-le h) (λ l. total-rest n m w l (λ i a b. z i a (omega arith)))
-  where
-    go : (n ≡ suc m) ⊎ (n < suc m) → (n ≤ m → total m w ≡ total n w) → total m w + w m ≡ total n w
-    go (inl e) rec = rw e
-    go (inr l) rec = omega (arith, rec (le-of-suc-le-suc l), z m (le-of-suc-le-suc l) (omega arith))
-
--- ---- the allocation looks at the factors of the channels that there are
-by-needs : (mode : SbcChannelMode) (bitpool : ℕ) (l l′ r r′ : List ℤ) → l ≡ l′ → (1 < channelsOf mode → r ≡ r′)
-    → allocateBy mode bitpool l r ≡ allocateBy mode bitpool l′ r′
-unfolding allocateBy
-by-needs Mono bitpool l l′ r r′ e f = rw e
-by-needs DualChannel bitpool l l′ r r′ e f = rw (e, f (omega arith))
-by-needs Stereo bitpool l l′ r r′ e f = rw (e, f (omega arith))
-by-needs JointStereo bitpool l l′ r r′ e f = rw (e, f (omega arith))
 
 -- join flags are there with two channels only
 joins-two : (p : SbcParameters) (s : ℕ) → s < joinCount p → channels p ≡ 2
@@ -204,84 +185,42 @@ module _ (p : SbcParameters) (a : accepted p ≡ true) (frame : List ℕ) (long 
   factor-is (suc (suc c)) s hc hs = absurd (omega (arith, channels-range p .1))
 
   -- ---- widths
-  needs-same : (c : ℕ) → c < channels p → channelNeeds p (getD factorRows c []) ≡ channelNeeds p (getD (readFactors p frame) c [])
-  unfolding channelNeeds unpack
-  needs-same c hc =
-      let l = length-factorRow c hc in
-      let m = enough-factors p frame c hc in
-      let n : min (p .subbands) (length (getD factorRows c [])) ≡ p .subbands = omega (arith, l, ranges p a .subbands-high) in
-      let k : min (p .subbands) (length (getD (readFactors p frame) c [])) ≡ p .subbands = omega (arith, m) in
-      rw (n, k) (build-ext (p .subbands) _ _ (λ s hs. ap (λ f. need p f s) (factor-is c s hc hs)))
-    where
-      length-factorRow : (c : ℕ) → c < channels p → length (getD factorRows c []) ≡ 8
-      length-factorRow zero hc = length-rowAt bytesOf (32 + joinCount p) 4 (p .subbands)
-      length-factorRow (suc zero) hc = length-rowAt bytesOf (32 + joinCount p + 4 * p .subbands) 4 (p .subbands * (channels p - 1))
-      length-factorRow (suc (suc c)) hc = absurd (omega (arith, channels-range p .1))
+  enough-rows : Enough p factorRows
+  enough-rows zero hc = omega (arith, length-rowAt bytesOf (32 + joinCount p) 4 (p .subbands), ranges p a .subbands-high)
+  enough-rows (suc zero) hc =
+      omega (
+        arith,
+        length-rowAt bytesOf (32 + joinCount p + 4 * p .subbands) 4 (p .subbands * (channels p - 1)),
+        ranges p a .subbands-high,
+      )
+  enough-rows (suc (suc c)) hc = absurd (omega (arith, channels-range p .1))
 
   allocate-same : allocate p factorRows ≡ allocate p (readFactors p frame)
-  unfolding allocate
-  allocate-same = by-needs (p .«channel_mode») (p .bitpool) _ _ _ _ (needs-same 0 (channels-range p .0)) (needs-same 1)
+  unfolding unpack
+  allocate-same = allocate-agree p factorRows (readFactors p frame) enough-rows (enough-factors p frame) factor-is
+
+  widths-same : (c s : ℕ) → widthAt p factorRows c s ≡ widthAt p (readFactors p frame) c s
+  unfolding widthAt
+  widths-same c s = ap (λ (t : List (List ℕ)). getD (getD t c []) s 0) allocate-same
 
   -- the width of a value, for every entry of the table
   pub width-is : (c s : ℕ) → c < 2 → s < 8 → entry (widthRow c) s ≡ widthAt p (readFactors p frame) c s
-  unfolding widthAt
-  width-is c s hc hs = table-at p factorRows c s hc hs ∙ ap (λ (t : List (List ℕ)). getD (getD t c []) s 0) allocate-same
+  width-is c s hc hs = table-width p a factorRows enough-rows c s hc hs ∙ widths-same c s
 
-  -- 0 for a subband that there is not
-  width-none : (c s : ℕ) → c < channels p → p .subbands ≤ s → widthAt p (readFactors p frame) c s ≡ 0
-  unfolding widthAt
-  width-none c s hc hs =
-      List·getD-eq-default (getD (allocate p (readFactors p frame)) c []) 0
-      (omega (arith, length-row p (readFactors p frame) (enough-factors p frame) c hc))
-
-  -- and for a channel that there is not
-  width-absent : (c s : ℕ) → channels p ≤ c → widthAt p (readFactors p frame) c s ≡ 0
-  unfolding widthAt
-  width-absent c s hc =
-      ap (λ (row : List ℕ). getD row s 0)
-      (List·getD-eq-default (allocate p (readFactors p frame)) [] (omega (arith, length-allocate p (readFactors p frame))))
-
-  row-width : (c : ℕ) → c < channels p → total 8 (entry (widthRow c)) ≡ channelWidth p (readFactors p frame) c
+  channel-same : (c : ℕ) → channelWidth p factorRows c ≡ channelWidth p (readFactors p frame) c
   unfolding channelWidth
-  row-width c hc =
-      let two : c < 2 = omega (arith, channels-range p .1) in
-      let most = ranges p a .subbands-high in
-      total-rest (p .subbands) 8 (entry (widthRow c)) most (λ s hs h8. width-is c s two h8 ∙ width-none c s hc hs)
-      ∙ total-ext (p .subbands) _ _ (λ s hs. width-is c s two (omega arith))
-
-  absent-width : channels p ≤ 1 → total 8 (entry (widthRow 1)) ≡ 0
-  unfolding total
-  absent-width h =
-      total-rest 0 8 (entry (widthRow 1)) (omega arith) (λ s _ h8. width-is 1 s (omega arith) h8 ∙ width-absent 1 s h)
+  channel-same c = total-ext (p .subbands) _ _ (λ s _. widths-same c s)
 
   -- the rows of both channels have the bits of a block
-  pub rows-width : total 8 (entry (widthRow 0)) + total 8 (entry (widthRow 1)) ≡ blockBits p
-  unfolding total
-  rows-width = go (ltb 1 (channels p)) refl
-    where
-      whole : total (channels p) (channelWidth p (readFactors p frame)) ≡ blockBits p
-      whole = block-width p (readFactors p frame) a (enough-factors p frame)
-
-      go : (t : Bool) → ltb 1 (channels p) ≡ t → total 8 (entry (widthRow 0)) + total 8 (entry (widthRow 1)) ≡ blockBits p
-      go true e =
-          let h = ltb-true 1 (channels p) e in
-          let two : channels p ≡ 2 = omega (arith, channels-range p .1) in
-          let sum : 0 + channelWidth p (readFactors p frame) 0 + channelWidth p (readFactors p frame) 1 ≡ blockBits p =
-          sym (ap (λ n. total n (channelWidth p (readFactors p frame))) two) ∙ whole in
-          omega (arith, sum, row-width 0 (omega arith), row-width 1 h)
-      go false e =
-          let h = ltb-false 1 (channels p) e in
-          let one : channels p ≡ 1 = omega (arith, channels-range p .0) in
-          let sum : 0 + channelWidth p (readFactors p frame) 0 ≡ blockBits p =
-          sym (ap (λ n. total n (channelWidth p (readFactors p frame))) one) ∙ whole in
-          omega (arith, sum, row-width 0 (omega arith), absent-width h)
+  both-rows : total 8 (entry (widthRow 0)) + total 8 (entry (widthRow 1)) ≡ blockBits p
+  both-rows = rows-width p a factorRows enough-rows
 
   -- ---- values
   -- where a channel's part of a block begins, and that it ends inside
   start-is : (c : ℕ) → c < channels p → start c ≡ 32 + (sideBits p + total c (channelWidth p (readFactors p frame)))
   unfolding total
   start-is zero hc = omega arith
-  start-is (suc zero) hc = omega (arith, row-width 0 (omega arith))
+  start-is (suc zero) hc = omega (arith, row-width p a factorRows enough-rows 0 (omega arith), channel-same 0)
   start-is (suc (suc c)) hc = absurd (omega (arith, channels-range p .1))
 
   pub start-inside : (c b : ℕ) → c < 2 → b < p .blocks → start c + b * blockBits p + total 8 (entry (widthRow c)) ≤ 4192
@@ -294,8 +233,8 @@ module _ (p : SbcParameters) (a : accepted p ≡ true) (frame : List ℕ) (long 
       blocks = omega (arith, suc-mul b (blockBits p), mul-le-mul-right (blockBits p) hb)
 
       go : (c : ℕ) → c < 2 → start c + b * blockBits p + total 8 (entry (widthRow c)) ≤ 4192
-      go zero h = omega (arith, room, blocks, rows-width)
-      go (suc zero) h = omega (arith, room, blocks, rows-width)
+      go zero h = omega (arith, room, blocks, both-rows)
+      go (suc zero) h = omega (arith, room, blocks, both-rows)
       go (suc (suc c)) h = absurd (omega arith)
 
   place-is : (b c s : ℕ) → c < channels p → s < p .subbands

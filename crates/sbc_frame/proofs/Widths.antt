@@ -1,22 +1,29 @@
 -- The widths of the quantized values: what the share theorem of the allocation says of them, as sums by index.
 -- Assumes nothing.
-use Prim.Native.Nat.{ℕ, zero, suc, _+_, _≤_, _<_}
+use Prim.Native.Nat.{ℕ, zero, suc, _+_, _≤_, _<_, min}
+use mathlib.Core.Logic.{_⊎_, inl, inr}
+use native.Mathlib.Nat.{le-of-suc-le-suc, eq-or-lt-of-le}
 use mathlib.Core.Path.{_≡_, refl, sym, ap, ap₂, _∙_}
 use mathlib.Core.Bool.{Bool, true, false, false≢true}
 use mathlib.Core.List.{List, [], _∷_, _++_, map, map-append, List·Memᴰ·head, List·Memᴰ·tail}
 use native.Mathlib.Omega.{arith}
-use lib.ListN.{length, getD}
+use lib.Dec.{ltb}
+use lib.ListN.{length, getD, List·getD-eq-default}
+use lib.IntN.{ℤ}
+use borrow.Author.Tests.{ltb-true, ltb-false}
 use Rattle.laws.specs.Lists.{collect, build, total}
-use Rattle.laws.proofs.Lists.{total-const, total-ext}
+use Rattle.laws.proofs.Lists.{total-const, total-ext, build-ext}
 use Rattle.sbc_parameters.specs.declared.SbcChannelMode.{SbcChannelMode}
 use Rattle.sbc_parameters.specs.declared.SbcChannelMode.the-variants.{Mono, DualChannel, Stereo, JointStereo}
 use Rattle.sbc_parameters.specs.declared.SbcParameters.{SbcParameters}
 use Rattle.sbc_parameters.specs.Parameters.{channelsOf, separate, channels, accepted}
 use Rattle.sbc_parameters.specs.Sizes.{blockBits}
 use Rattle.sbc_allocation.specs.Share.{sum}
-use Rattle.sbc_allocation.specs.Allocate.{allocate}
+use Rattle.sbc_parameters.proofs.Accepted.{channels-range, ranges}
+use Rattle.sbc_allocation.specs.Need.{need}
+use Rattle.sbc_allocation.specs.Allocate.{channelNeeds, allocateBy, allocate, allocationTable}
 use Rattle.sbc_allocation.specs.Shares.{_∈_, Place, placesOf, groupsBy, groups, entryAt}
-use Rattle.sbc_allocation.proofs.Rows.{allocate-16}
+use Rattle.sbc_allocation.proofs.Rows.{allocate-16, length-allocate, length-row, table-at}
 use Rattle.sbc_allocation.proofs.Groups.{sum-append, shares-fair}
 use Rattle.sbc_frame.specs.Fields.{widthAt, channelWidth}
 
@@ -98,3 +105,91 @@ module _ (p : SbcParameters) (factors : List (List ℕ)) (a : accepted p ≡ tru
           (total-ext (channels p) (channelWidth p factors) (λ _. p .bitpool) (λ c h. channel-width c e h)
           ∙ total-const (channels p) (p .bitpool))
       go false e = rw e (both-width e)
+
+-- ---- the table that the code has: rows of eight, 0 where the set has no subband or no channel
+-- a sum whose terms from n on are 0
+pub total-rest : (n m : ℕ) (w : ℕ → ℕ) → n ≤ m → ((i : ℕ) → n ≤ i → i < m → w i ≡ 0) → total m w ≡ total n w
+unfolding total
+total-rest n zero w h z = let e : n ≡ 0 = omega arith in rw e
+total-rest n (suc m) w h z = go (eq-or-lt-of-le h) (λ l. total-rest n m w l (λ i a b. z i a (omega arith)))
+  where
+    go : (n ≡ suc m) ⊎ (n < suc m) → (n ≤ m → total m w ≡ total n w) → total m w + w m ≡ total n w
+    go (inl e) rec = rw e
+    go (inr l) rec = omega (arith, rec (le-of-suc-le-suc l), z m (le-of-suc-le-suc l) (omega arith))
+
+-- the allocation looks at the factors of the channels that there are
+by-needs : (mode : SbcChannelMode) (bitpool : ℕ) (l l′ r r′ : List ℤ) → l ≡ l′ → (1 < channelsOf mode → r ≡ r′)
+    → allocateBy mode bitpool l r ≡ allocateBy mode bitpool l′ r′
+unfolding allocateBy
+by-needs Mono bitpool l l′ r r′ e f = rw e
+by-needs DualChannel bitpool l l′ r r′ e f = rw (e, f (omega arith))
+by-needs Stereo bitpool l l′ r r′ e f = rw (e, f (omega arith))
+by-needs JointStereo bitpool l l′ r r′ e f = rw (e, f (omega arith))
+
+-- and there at those of the subbands that there are
+pub allocate-agree : (p : SbcParameters) (factors factors′ : List (List ℕ)) → Enough p factors → Enough p factors′
+    → ((c s : ℕ) → c < channels p → s < p .subbands → getD (getD factors c []) s 0 ≡ getD (getD factors′ c []) s 0)
+    → allocate p factors ≡ allocate p factors′
+unfolding allocate channelNeeds
+allocate-agree p factors factors′ enough enough′ same =
+    by-needs (p .«channel_mode») (p .bitpool) _ _ _ _ (needs 0 (channels-range p .0)) (needs 1)
+  where
+    needs : (c : ℕ) → c < channels p → channelNeeds p (getD factors c []) ≡ channelNeeds p (getD factors′ c [])
+    needs c hc =
+        let n : min (p .subbands) (length (getD factors c [])) ≡ p .subbands = omega (arith, enough c hc) in
+        let k : min (p .subbands) (length (getD factors′ c [])) ≡ p .subbands = omega (arith, enough′ c hc) in
+        rw (n, k) (build-ext (p .subbands) _ _ (λ s hs. ap (λ f. need p f s) (same c s hc hs)))
+
+module _ (p : SbcParameters) (a : accepted p ≡ true) (factors : List (List ℕ)) (enough : Enough p factors) where
+  abbrev pub tableWidth : ℕ → ℕ → ℕ
+  tableWidth c s = getD (getD (allocationTable p factors) c []) s 0
+
+  -- an entry of the table is the width of a value
+  pub table-width : (c s : ℕ) → c < 2 → s < 8 → tableWidth c s ≡ widthAt p factors c s
+  unfolding widthAt
+  table-width c s hc hs = table-at p factors c s hc hs
+
+  -- 0 for a subband that there is not
+  pub width-none : (c s : ℕ) → c < channels p → p .subbands ≤ s → widthAt p factors c s ≡ 0
+  unfolding widthAt
+  width-none c s hc hs = List·getD-eq-default (getD (allocate p factors) c []) 0 (omega (arith, length-row p factors enough c hc))
+
+  -- and for a channel that there is not
+  pub width-absent : (c s : ℕ) → channels p ≤ c → widthAt p factors c s ≡ 0
+  unfolding widthAt
+  width-absent c s hc =
+      ap (λ (row : List ℕ). getD row s 0) (List·getD-eq-default (allocate p factors) [] (omega (arith, length-allocate p factors)))
+
+  pub row-width : (c : ℕ) → c < channels p → total 8 (tableWidth c) ≡ channelWidth p factors c
+  unfolding channelWidth
+  row-width c hc =
+      let two : c < 2 = omega (arith, channels-range p .1) in
+      let most = ranges p a .subbands-high in
+      total-rest (p .subbands) 8 (tableWidth c) most (λ s hs h8. table-width c s two h8 ∙ width-none c s hc hs)
+      ∙ total-ext (p .subbands) _ _ (λ s hs. table-width c s two (omega arith))
+
+  absent-width : channels p ≤ 1 → total 8 (tableWidth 1) ≡ 0
+  unfolding total
+  absent-width h =
+      total-rest 0 8 (tableWidth 1) (omega arith) (λ s _ h8. table-width 1 s (omega arith) h8 ∙ width-absent 1 s h)
+
+  -- the rows of both channels have the bits of a block
+  pub rows-width : total 8 (tableWidth 0) + total 8 (tableWidth 1) ≡ blockBits p
+  unfolding total
+  rows-width = go (ltb 1 (channels p)) refl
+    where
+      whole : total (channels p) (channelWidth p factors) ≡ blockBits p
+      whole = block-width p factors a enough
+
+      go : (t : Bool) → ltb 1 (channels p) ≡ t → total 8 (tableWidth 0) + total 8 (tableWidth 1) ≡ blockBits p
+      go true e =
+          let h = ltb-true 1 (channels p) e in
+          let two : channels p ≡ 2 = omega (arith, channels-range p .1) in
+          let sum : 0 + channelWidth p factors 0 + channelWidth p factors 1 ≡ blockBits p =
+          sym (ap (λ n. total n (channelWidth p factors)) two) ∙ whole in
+          omega (arith, sum, row-width 0 (omega arith), row-width 1 h)
+      go false e =
+          let h = ltb-false 1 (channels p) e in
+          let one : channels p ≡ 1 = omega (arith, channels-range p .0) in
+          let sum : 0 + channelWidth p factors 0 ≡ blockBits p = sym (ap (λ n. total n (channelWidth p factors)) one) ∙ whole in
+          omega (arith, sum, row-width 0 (omega arith), absent-width h)
