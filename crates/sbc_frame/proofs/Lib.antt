@@ -1,4 +1,4 @@
--- Laws of a frame: the bits of its values, where its fields lie, the frame that is written, what is read from a frame, coding one, and playing one.
+-- Laws of a frame: the bits of its values, where its fields lie, the frame that is written, what is read from a frame, coding one, scale factors and joint stereo, and playing one.
 pub mod Widths
 pub mod Positions
 pub mod Written
@@ -8,5 +8,7 @@ pub mod Received
 pub mod Coding
 pub mod Blocks
 pub mod Columns
+pub mod Rows
+pub mod Halves
 pub mod Weaving
 pub mod Played
