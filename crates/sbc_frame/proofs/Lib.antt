@@ -1,5 +1,5 @@
 -- Laws of a frame: the bits of its values, where its fields lie, the frame that is written, what is read from a frame, coding one, playing one,
--- and the analysis of its PCM.
+-- analyzing one, its scale factors and joint stereo.
 pub mod Widths
 pub mod Positions
 pub mod Written
@@ -9,6 +9,8 @@ pub mod Received
 pub mod Coding
 pub mod Blocks
 pub mod Columns
+pub mod Rows
+pub mod Halves
 pub mod Weaving
 pub mod Played
 pub mod Analyzed

@@ -1,55 +1,62 @@
+-- `joining::factors_of` meets its contract. The loop's invariant: the scale factors of the subbands passed, and zeros behind them.
+-- Assumes nothing.
+use Prim.Native.Nat.{_-_, _≤_}
+use mathlib.Core.Path.{_≡_, _∙_}
+use native.Mathlib.Omega.{arith}
+use borrow.Author.Needs.{needs}
+use Rattle.laws.specs.Lists.{build}
+use Rattle.sbc_frame.specs.Parts.{below}
+use Rattle.sbc_frame.specs.Pieces.{factorsIn}
+use Rattle.sbc_frame.proofs.Rows.{row-none, row-next, row-all, factorAt, factor-of}
 use Rattle.sbc_frame.proofs.joining.factors_of.Statement.{statement}
 use Rattle.sbc_frame.proofs.joining.factors_of.Tie as tie
-use Rattle.sbc_frame.proofs.joining.factors_of.Reads as reads
-use Rattle.sbc_frame.proofs.joining.factors_of.Lts as lts
-use Rattle.sbc_frame.proofs.joining.maxima.Reads as maxima-reads
-use Rattle.sbc_quantizer.proofs.scale_factor.Reads as scale-factor-reads
 
 abbrev Inv-loop : tie.InvT-loop
-Inv-loop samples blocks top factors₀ s₀ factors s = ?
+Inv-loop samples blocks top factors₀ s₀ factors s = (s ≤ 8) × (factors ≡ build 8 (below s (factorAt blocks samples)))
 
 abbrev μ-loop : tie.MeasureT-loop
-μ-loop samples blocks top factors₀ s₀ factors s = ?
+μ-loop samples blocks top factors₀ s₀ factors s = 8 - s
 
--- src/joining.rt:62:15
 maxima-requires : tie.Need-maxima-requires Inv-loop μ-loop
-maxima-requires c κs = ?
+maxima-requires c κs = omega arith
 
--- src/joining.rt:64:5
 loop-holds : tie.Need-loop-holds Inv-loop μ-loop
-loop-holds c = ?
+loop-holds c = (omega arith, row-none (factorAt (c .before .args .blocks) (c .before .args .samples .now)))
 
--- src/joining.rt:65:35
 mul-scale-factor : tie.Need-mul-scale-factor Inv-loop μ-loop
-mul-scale-factor c = ?
+mul-scale-factor c = omega arith
 
--- src/joining.rt:65:35
 array-read-scale-factor : tie.Need-array-read-scale-factor Inv-loop μ-loop
-array-read-scale-factor c = ?
+array-read-scale-factor c = omega arith
 
--- src/joining.rt:65:22
 scale-factor-requires : tie.Need-scale-factor-requires Inv-loop μ-loop
-scale-factor-requires c κs = ?
+scale-factor-requires c κs = search needs
 
--- src/joining.rt:65:9
 array-write-factors : tie.Need-array-write-factors Inv-loop μ-loop
-array-write-factors c = ?
+array-write-factors c = omega arith
 
--- src/joining.rt:64:9
 add-s : tie.Need-add-s Inv-loop μ-loop
-add-s c = ?
+add-s c = omega arith
 
--- src/joining.rt:64:5
 loop-less : tie.Need-loop-less Inv-loop μ-loop
-loop-less c = ?
+loop-less c = omega arith
 
--- src/joining.rt:64:5
 loop-again : tie.Need-loop-again Inv-loop μ-loop
-loop-again c = ?
+loop-again c =
+    let l = c .before .before in
+    let a = l .before .before .args in (
+      omega arith,
+      row-next (factorAt (a .blocks) (a .samples .now)) (l .loop .s) (l .loop .factors) (c .scale-factor .result) (l .loop .inv .1)
+          (c .scale-factor .ensures
+          ∙ factor-of (a .blocks) (a .samples .now) (l .before .maxima .result) (l .loop .s) (l .before .maxima .ensures) (omega arith)),
+    )
 
--- src/joining.rt:58:1
 returns : tie.Need-returns Inv-loop μ-loop
-returns c = ?
+unfolding factorsIn
+returns c =
+    let a = c .before .before .before .args in
+    let l = c .before .loop in
+    row-all (factorAt (a .blocks) (a .samples .now)) (l .s) (l .factors) (omega arith) (l .inv .1)
 
 pub factors-of-spec : {M : Type 1} → statement M
 factors-of-spec =

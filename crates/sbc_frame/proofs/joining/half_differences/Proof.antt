@@ -1,61 +1,91 @@
+-- `joining::half_differences` meets its contract. The loop's invariant: the differences passed, and zeros behind them.
+-- Assumes nothing.
+use Prim.Native.Nat.{ℕ, _-_, _≤_}
+use mathlib.Core.Path.{_≡_}
+use mathlib.Core.List.{List}
+use native.Mathlib.Omega.{arith}
+use lib.ListN.{getD}
+use lib.IntN.{ℤ, pos, _-ℤ_}
+use mir.Syntax.{w32}
+use mir.Val.{SFits}
+use Rattle.laws.specs.Integers.{floorDiv}
+use Rattle.laws.specs.Lists.{build}
+use Rattle.laws.specs.Sums.{upTo}
+use Rattle.laws.proofs.Arrays.{fill-none, stored}
+use Rattle.sbc_frame.specs.Pieces.{halfDifferences}
+use Rattle.sbc_frame.proofs.Halves.{read-half-difference, half-difference-fits, all-filled}
 use Rattle.sbc_frame.proofs.joining.half_differences.Statement.{statement}
 use Rattle.sbc_frame.proofs.joining.half_differences.Tie as tie
-use Rattle.sbc_frame.proofs.joining.half_differences.Reads as reads
-use Rattle.sbc_frame.proofs.joining.half_differences.Lts as lts
+
+-- the entry at k
+abbrev difference : List ℤ → List ℤ → ℕ → ℤ
+difference left right k = floorDiv (getD left k (pos 0)) 2 -ℤ floorDiv (getD right k (pos 0)) 2
 
 abbrev Inv-loop : tie.InvT-loop
-Inv-loop left right differences₀ k₀ differences k = ?
+Inv-loop left right differences₀ k₀ differences k = (k ≤ 128) × (differences ≡ build 128 (upTo k (difference left right)))
 
 abbrev μ-loop : tie.MeasureT-loop
-μ-loop left right differences₀ k₀ differences k = ?
+μ-loop left right differences₀ k₀ differences k = 128 - k
 
--- src/joining.rt:86:5
 loop-holds : tie.Need-loop-holds Inv-loop μ-loop
-loop-holds c = ?
+loop-holds c = (omega arith, fill-none 128 (difference (c .args .left .now) (c .args .right .now)))
 
--- src/joining.rt:87:27
 mul-differences : tie.Need-mul-differences Inv-loop μ-loop
-mul-differences c = ?
+mul-differences c = omega arith
 
--- src/joining.rt:87:27
 element-copy-out-differences : tie.Need-element-copy-out-differences Inv-loop μ-loop
-element-copy-out-differences c = ?
+element-copy-out-differences c = omega arith
 
--- src/joining.rt:87:44
 mul-differences-2 : tie.Need-mul-differences-2 Inv-loop μ-loop
-mul-differences-2 c = ?
+mul-differences-2 c = omega arith
 
--- src/joining.rt:87:44
 element-copy-out-differences-2 : tie.Need-element-copy-out-differences-2 Inv-loop μ-loop
-element-copy-out-differences-2 c = ?
+element-copy-out-differences-2 c = omega arith
 
--- src/joining.rt:87:26
+-- what is read of the two arrays
+module _ (c : tie.After-differences2 Inv-loop μ-loop) where
+  abbrev x : ℤ
+  x = getD (c .before .before .before .before .args .left .now) (c .before .before .before .loop .k) (pos 0)
+
+  abbrev y : ℤ
+  y = getD (c .before .before .before .before .args .right .now) (c .before .before .before .loop .k) (pos 0)
+
+  x-fits : SFits w32 x
+  x-fits = record { sfits = c .before .differences .given }
+
+  y-fits : SFits w32 y
+  y-fits = record { sfits = c .differences2 .given }
+
 sub-differences : tie.Need-sub-differences Inv-loop μ-loop
-sub-differences c = ?
+sub-differences c = half-difference-fits (x c) (y c) (x-fits c) (y-fits c)
 
--- src/joining.rt:87:9
 mul-differences-3 : tie.Need-mul-differences-3 Inv-loop μ-loop
-mul-differences-3 c = ?
+mul-differences-3 c = omega arith
 
--- src/joining.rt:87:9
 array-set-from-differences : tie.Need-array-set-from-differences Inv-loop μ-loop
-array-set-from-differences c = ?
+array-set-from-differences c = omega arith
 
--- src/joining.rt:86:9
 add-k : tie.Need-add-k Inv-loop μ-loop
-add-k c = ?
+add-k c = omega arith
 
--- src/joining.rt:86:5
 loop-less : tie.Need-loop-less Inv-loop μ-loop
-loop-less c = ?
+loop-less c = omega arith
 
--- src/joining.rt:86:5
 loop-again : tie.Need-loop-again Inv-loop μ-loop
-loop-again c = ?
+loop-again c =
+    let l = c .before .before .before in
+    let a = l .before .args in (
+      omega arith,
+      stored w32 128 (l .loop .k) (difference (a .left .now) (a .right .now)) (l .loop .differences) _ (sub-differences c) (omega arith) (l .loop .inv .1)
+          (read-half-difference (x c) (y c) (x-fits c) (y-fits c)),
+    )
 
--- src/joining.rt:82:1
 returns : tie.Need-returns Inv-loop μ-loop
-returns c = ?
+unfolding halfDifferences
+returns c =
+    let a = c .before .before .args in
+    let l = c .before .loop in
+    all-filled 128 (l .k) (difference (a .left .now) (a .right .now)) (l .differences) (omega arith) (omega arith) (l .inv .1)
 
 pub half-differences-spec : {M : Type 1} → statement M
 half-differences-spec =

@@ -1,70 +1,83 @@
+-- `joining::join_flags` meets its contract. The loop's invariant: the flags of the subbands passed, and zeros behind them.
+-- Assumes nothing.
+use Prim.Native.Nat.{ℕ, _-_, _≤_}
+use mathlib.Core.Path.{_≡_, ap, _∙_}
+use mathlib.Core.List.{List}
+use native.Mathlib.Omega.{arith}
+use borrow.Author.Needs.{needs}
+use Rattle.laws.specs.Lists.{build}
+use Rattle.laws.specs.Bits.{digit}
+use Rattle.sbc_frame.specs.Parts.{below}
+use Rattle.sbc_frame.proofs.Rows.{row-none, row-next, gains, flags-all}
 use Rattle.sbc_frame.proofs.joining.join_flags.Statement.{statement}
 use Rattle.sbc_frame.proofs.joining.join_flags.Tie as tie
-use Rattle.sbc_frame.proofs.joining.join_flags.Reads as reads
-use Rattle.sbc_frame.proofs.joining.join_flags.Lts as lts
-use Rattle.sbc_frame.proofs.joining.flag.Reads as flag-reads
+
+-- the flag of a subband
+abbrev flagAt : List ℕ → List ℕ → List ℕ → List ℕ → ℕ → ℕ
+flagAt left right sums differences s = digit (gains left right sums differences s)
 
 abbrev Inv-loop : tie.InvT-loop
-Inv-loop left right sums differences subbands flags₀ s₀ s-end flags s = ?
+Inv-loop left right sums differences subbands flags₀ s₀ s-end flags s = (s ≤ subbands - 1) × (flags ≡ build 8 (below s (flagAt left right sums differences)))
 
 abbrev μ-loop : tie.MeasureT-loop
-μ-loop left right sums differences subbands flags₀ s₀ s-end flags s = ?
+μ-loop left right sums differences subbands flags₀ s₀ s-end flags s = subbands - s
 
--- src/joining.rt:111:17
 sub-s-end : tie.Need-sub-s-end Inv-loop μ-loop
-sub-s-end c = ?
+sub-s-end c = omega arith
 
--- src/joining.rt:111:5
 loop-holds : tie.Need-loop-holds Inv-loop μ-loop
-loop-holds c = ?
+loop-holds c = (omega arith, row-none (flagAt (c .args .left .now) (c .args .right .now) (c .args .sums .now) (c .args .differences .now)))
 
--- src/joining.rt:112:25
 element-copy-out-flag : tie.Need-element-copy-out-flag Inv-loop μ-loop
-element-copy-out-flag c = ?
+element-copy-out-flag c = omega arith
 
--- src/joining.rt:112:35
 element-copy-out-flag-2 : tie.Need-element-copy-out-flag-2 Inv-loop μ-loop
-element-copy-out-flag-2 c = ?
+element-copy-out-flag-2 c = omega arith
 
--- src/joining.rt:112:25
 add-flag : tie.Need-add-flag Inv-loop μ-loop
-add-flag c = ?
+add-flag c =
+    let l = c .before .before .before in
+    omega (arith, l .before .pre .4 (l .loop .s), l .before .pre .5 (l .loop .s))
 
--- src/joining.rt:112:52
 element-copy-out-flag-3 : tie.Need-element-copy-out-flag-3 Inv-loop μ-loop
-element-copy-out-flag-3 c = ?
+element-copy-out-flag-3 c = omega arith
 
--- src/joining.rt:112:62
 element-copy-out-flag-4 : tie.Need-element-copy-out-flag-4 Inv-loop μ-loop
-element-copy-out-flag-4 c = ?
+element-copy-out-flag-4 c = omega arith
 
--- src/joining.rt:112:52
 add-flag-2 : tie.Need-add-flag-2 Inv-loop μ-loop
-add-flag-2 c = ?
+add-flag-2 c =
+    let l = c .before .before .before .before .before in
+    omega (arith, l .before .pre .2 (l .loop .s), l .before .pre .3 (l .loop .s))
 
--- src/joining.rt:112:20
 flag-requires : tie.Need-flag-requires Inv-loop μ-loop
-flag-requires c κs = ?
+flag-requires c κs = search needs
 
--- src/joining.rt:112:9
 array-write-flags : tie.Need-array-write-flags Inv-loop μ-loop
-array-write-flags c = ?
+array-write-flags c = omega arith
 
--- src/joining.rt:111:9
 add-s : tie.Need-add-s Inv-loop μ-loop
-add-s c = ?
+add-s c = omega arith
 
--- src/joining.rt:111:5
 loop-less : tie.Need-loop-less Inv-loop μ-loop
-loop-less c = ?
+loop-less c = omega arith
 
--- src/joining.rt:111:5
 loop-again : tie.Need-loop-again Inv-loop μ-loop
-loop-again c = ?
+loop-again c =
+    let l = c .before .before .before .before .before .before in
+    let a = l .before .args in (
+      omega arith,
+      row-next (flagAt (a .left .now) (a .right .now) (a .sums .now) (a .differences .now)) (l .loop .s) (l .loop .flags) (c .flag .result)
+          (l .loop .inv .1) (c .flag .ensures),
+    )
 
--- src/joining.rt:100:1
 returns : tie.Need-returns Inv-loop μ-loop
-returns c = ?
+returns c =
+    let a = c .before .before .args in
+    let l = c .before .loop in
+    let e : l .s ≡ a .subbands - 1 = omega arith in
+    l .inv .1 ∙ ap (λ (n : ℕ). build 8 (below n (flagAt (a .left .now) (a .right .now) (a .sums .now) (a .differences .now)))) e
+    ∙ flags-all (a .left .now) (a .right .now) (a .sums .now) (a .differences .now) (a .subbands) (omega arith)
 
 pub join-flags-spec : {M : Type 1} → statement M
 join-flags-spec =

@@ -1,39 +1,21 @@
 -- `subbands::read_row` meets its contract. The loop's invariant: the numbers that are read, zeros behind them, and where the next stands.
 -- Assumes nothing.
 use Prim.Native.Nat.{ℕ, _+_, _-_, _*_, _^_, _≤_}
-use mathlib.Core.Path.{_≡_, refl, sym, ap, _∙_}
+use mathlib.Core.Path.{_≡_, ap, _∙_}
 use mathlib.Core.List.{List}
 use native.Mathlib.Nat.{add-mul}
 use native.Mathlib.Omega.{arith}
-use lib.Dec.{ltb}
-use lib.ListN.{set, replicate}
 use lib.Pow.{pow-mono}
-use borrow.Author.Tests.{lt-ltb, le-ltb, ltb-true, ltb-false}
-use Rattle.laws.specs.Lists.{build, collect}
-use Rattle.laws.proofs.Cases.{by-test}
 use Rattle.bits.specs.Fields.{numberAt}
-use Rattle.sbc_frame.specs.Parts.{below, rowAt}
+use Rattle.sbc_frame.specs.Parts.{rowAt}
 use Rattle.sbc_frame.proofs.Positions.{times-below}
-use Rattle.sbc_frame.proofs.Columns.{build-set}
+use Rattle.sbc_frame.proofs.Rows.{row-none, row-next}
 use Rattle.sbc_frame.proofs.subbands.read_row.Statement.{statement}
 use Rattle.sbc_frame.proofs.subbands.read_row.Tie as tie
 
--- no number yet
-row-none : (bytes : List ℕ) (position width : ℕ) → replicate 8 0 ≡ rowAt bytes position width 0
-unfolding rowAt build collect
-row-none bytes position width = refl
-
--- one number more
-row-next : (bytes : List ℕ) (position width s : ℕ) (row : List ℕ) (v : ℕ) → row ≡ rowAt bytes position width s
-    → v ≡ numberAt bytes (position + s * width) width → set row s v ≡ rowAt bytes position width (s + 1)
-unfolding rowAt
-row-next bytes position width s row v e q =
-    let f : ℕ → ℕ = λ k. numberAt bytes (position + k * width) width in
-    ap (λ (xs : List ℕ). set xs s v) e
-    ∙ build-set 8 (below s f) (below (s + 1) f) s v 0 (q ∙ sym (rw (lt-ltb s (s + 1) (omega arith))))
-    (λ k ne. by-test (λ (z : ℕ). z ≡ below (s + 1) f k) (ltb k s) (f k) 0
-    (λ t. sym (rw (lt-ltb k (s + 1) (omega (arith, ltb-true k s t)))))
-    (λ t. sym (rw (le-ltb k (s + 1) (omega (arith, ltb-false k s t))))))
+-- the number at a place of the row
+abbrev placedNumber : List ℕ → ℕ → ℕ → ℕ → ℕ
+placedNumber bytes position width s = numberAt bytes (position + s * width) width
 
 abbrev Inv-loop : tie.InvT-loop
 Inv-loop bytes position width count row₀ at₀ s₀ row at s =
@@ -43,7 +25,8 @@ abbrev μ-loop : tie.MeasureT-loop
 μ-loop bytes position width count row₀ at₀ s₀ row at s = count - s
 
 loop-holds : tie.Need-loop-holds Inv-loop μ-loop
-loop-holds c = (omega arith, omega arith, row-none (c .args .bytes .now) (c .args .position) (c .args .width))
+unfolding rowAt
+loop-holds c = (omega arith, omega arith, row-none (placedNumber (c .args .bytes .now) (c .args .position) (c .args .width)))
 
 number-at-requires : tie.Need-number-at-requires Inv-loop μ-loop
 number-at-requires c κs =
@@ -70,13 +53,14 @@ loop-less : tie.Need-loop-less Inv-loop μ-loop
 loop-less c = omega arith
 
 loop-again : tie.Need-loop-again Inv-loop μ-loop
+unfolding rowAt
 loop-again c =
     let a = c .before .before .before .args in
     let l = c .before .before .loop in
     let bytes = a .bytes .now in (
       omega arith,
       omega (arith, add-mul (l .s) 1 (a .width)),
-      row-next bytes (a .position) (a .width) (l .s) (l .row) (c .number-at .result) (l .inv .2)
+      row-next (placedNumber bytes (a .position) (a .width)) (l .s) (l .row) (c .number-at .result) (l .inv .2)
           (c .number-at .ensures .0 ∙ ap (λ (k : ℕ). numberAt bytes k (a .width)) (l .inv .1)),
     )
 
