@@ -14,3 +14,4 @@ pub mod Halves
 pub mod Weaving
 pub mod Played
 pub mod Analyzed
+pub mod Packed

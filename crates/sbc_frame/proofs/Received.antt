@@ -81,7 +81,7 @@ joins-two p s = go (p .«channel_mode»)
     go Stereo h = refl
     go JointStereo h = refl
 
-joins-le : (p : SbcParameters) → joinCount p ≤ p .subbands
+pub joins-le : (p : SbcParameters) → joinCount p ≤ p .subbands
 unfolding joinCount
 joins-le p = by-test (λ n. n ≤ p .subbands) (isJoint (p .«channel_mode»)) (p .subbands) 0 (λ _. omega arith) (λ _. omega arith)
 
