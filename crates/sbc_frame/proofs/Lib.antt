@@ -1,4 +1,5 @@
--- Laws of a frame: the bits of its values, where its fields lie, the frame that is written, what is read from a frame, coding one, and playing one.
+-- Laws of a frame: the bits of its values, where its fields lie, the frame that is written, what is read from a frame, coding one, playing one,
+-- and writing its bits.
 pub mod Widths
 pub mod Positions
 pub mod Written
@@ -10,3 +11,4 @@ pub mod Blocks
 pub mod Columns
 pub mod Weaving
 pub mod Played
+pub mod Flushing
