@@ -1,5 +1,5 @@
 -- Laws of a frame: the bits of its values, where its fields lie, the frame that is written, what is read from a frame, coding one, playing one,
--- analyzing one, its scale factors and joint stereo.
+-- analyzing one, its scale factors and joint stereo, and its bits as the code writes them.
 pub mod Widths
 pub mod Positions
 pub mod Written
@@ -15,3 +15,4 @@ pub mod Weaving
 pub mod Played
 pub mod Analyzed
 pub mod Packed
+pub mod Flushing

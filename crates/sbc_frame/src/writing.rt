@@ -3,7 +3,7 @@ use sbc_quantizer::quantize;
 ghost use mathlib.Core.Path.{_≡_};
 ghost use mathlib.Core.List.{_++_};
 ghost use Prim.Native.Nat.{ℕ, _+_, _*_, _^_, _≤_, _<_};
-ghost use lib.ListN.{length};
+ghost use lib.ListN.{length, getD};
 ghost use Rattle.laws.specs.Bits.{bitsOf};
 ghost use Rattle.laws.specs.Lists.{total};
 ghost use Rattle.sbc_frame.specs.Parts.{entry};
@@ -36,7 +36,7 @@ fn put(bytes: &mut [u8], writer: Writer, value: u32, count: u32) -> Writer
 
 // The bits that do not fill a byte, with zeros behind them.
 pub fn finish(bytes: &mut [u8], writer: Writer)
-    requires { ⌜ (Ready (length (now bytes)) writer) × (8 * length (now bytes) < 8 * writer .at + writer .held + 8) ⌝ }
+    requires { ⌜ (Ready (length (now bytes)) writer) × (8 * length (now bytes) < 8 * writer .at + writer .held + 8) × ((k : ℕ) → getD (now bytes) k 0 < 256) ⌝ }
     ensures { λ _. ⌜ now (bytes .exit) ≡ filled (length (now (bytes .entry))) (bitsIn (now (bytes .entry)) writer) ⌝ }
 {
     if 0 < writer.held {

@@ -1,3 +1,18 @@
+-- `sbc_frame::encoding::encode_frame` meets its contract: what is coded of the samples (`CodingIn`) is written as the frame's bytes.
+-- Assumes nothing.
+use Prim.Native.Nat.{ℕ, _*_, _≤_}
+use mathlib.Core.Path.{_≡_, ap, _∙_}
+use mathlib.Core.List.{List, [], _∷_}
+use native.Mathlib.Omega.{arith}
+use lib.IntN.{ℤ}
+use lib.ListN.{length}
+use Rattle.sbc_parameters.specs.declared.SbcParameters.{SbcParameters}
+use Rattle.sbc_parameters.specs.Parameters.{channels, accepted}
+use Rattle.sbc_parameters.specs.Sizes.{samplesPerChannel, frameSamples}
+use Rattle.sbc_parameters.proofs.Accepted.{channels-range, subbands-cases, ranges}
+use Rattle.sbc_filterbank.specs.Subbands.{Bands}
+use Rattle.sbc_frame.specs.Encoding.{channelSamples, encodeFields}
+use Rattle.sbc_frame.proofs.Packed.{frame-packed, histories-analyzed, channels-analyzed}
 use borrow.Author.Needs.{needs}
 use Rattle.sbc_frame.proofs.encoding.encode_frame.Statement.{statement}
 use Rattle.sbc_frame.proofs.encoding.encode_frame.Tie as tie
@@ -9,43 +24,33 @@ use Rattle.sbc_frame.proofs.encoding.code.Reads as code-reads
 use Rattle.sbc_frame.proofs.encoding.write_frame.Reads as write-frame-reads
 use Rattle.sbc_parameters.proofs.SbcParameters.channels.Reads as channels-reads
 
--- src/encoding.rt:198:18
 cast-blocks : tie.Need-cast-blocks
 cast-blocks c = search needs
 
--- src/encoding.rt:199:20
 cast-subbands : tie.Need-cast-subbands
 cast-subbands c = search needs
 
--- src/encoding.rt:200:20
 channels-requires : tie.Need-channels-requires
 channels-requires c κs = search needs
 
--- src/encoding.rt:200:20
 cast-channels : tie.Need-cast-channels
 cast-channels c = search needs
 
--- src/encoding.rt:201:16
 analyze-channel-requires : tie.Need-analyze-channel-requires
 analyze-channel-requires c κs = ?
 
--- src/encoding.rt:202:17
 analyze-second-requires : tie.Need-analyze-second-requires
 analyze-second-requires c κs = ?
 
--- src/encoding.rt:203:9
 code-requires : tie.Need-code-requires
 code-requires c κs = search needs
 
--- src/encoding.rt:209:5
 write-frame-requires : tie.Need-write-frame-requires
 write-frame-requires c κs = ?
 
--- src/encoding.rt:187:1
 same-length : tie.Need-same-length
 same-length c = search needs
 
--- src/encoding.rt:187:1
 returns : tie.Need-returns
 returns c = ?
 
