@@ -1,8 +1,10 @@
 -- For code that goes block by block and keeps a running bit position: one block more at the end of an analysis and of a synthesis, and each
 -- field's position from that of the field before it.
 -- Assumes nothing.
-use Prim.Native.Nat.{ℕ, zero, suc, _+_, _*_}
-use mathlib.Core.Path.{_≡_, refl, sym, ap, _∙_}
+use Prim.Native.Nat.{ℕ, zero, suc, _+_, _*_, _≤_, _<_}
+use mathlib.Core.Path.{_≡_, refl, sym, ap, _∙_, subst}
+use mathlib.Core.Bool.{true}
+use mathlib.Core.Logic.{inl, inr}
 use mathlib.Core.List.{List, [], _∷_, _++_, append-assoc, append-nil}
 use native.Mathlib.Nat.{zero-mul, suc-mul}
 use native.Mathlib.Numerals.{add-one}
@@ -13,8 +15,10 @@ use lib.Seq.{drop-drop}
 use Rattle.laws.specs.Lists.{total}
 use Rattle.laws.proofs.Lists.{length-build}
 use Rattle.sbc_parameters.specs.declared.SbcParameters.{SbcParameters}
-use Rattle.sbc_parameters.specs.Parameters.{channels}
-use Rattle.sbc_parameters.specs.Sizes.{joinCount, sideBits}
+use Rattle.sbc_parameters.specs.Parameters.{channels, accepted}
+use Rattle.sbc_parameters.specs.Sizes.{joinCount, sideBits, samplesPerChannel, frameSamples}
+use Rattle.sbc_parameters.proofs.Accepted.{subbands-cases, ranges, channels-range}
+use Rattle.sbc_filterbank.specs.Subbands.{Bands}
 use Rattle.sbc_filterbank.specs.Analysis.{shifted, analysisOutputs}
 use Rattle.sbc_filterbank.specs.Synthesis.{synthesisOutputs}
 use Rattle.sbc_filterbank.specs.declared.synthesis.Synthesis.{Synthesis}
@@ -135,3 +139,16 @@ module _ (p : SbcParameters) where
     pub value-block : (b : ℕ) → valuePosition p factors (b + 1) 0 0 ≡ valuePosition p factors b (channels p) 0
     unfolding valuePosition total
     value-block b = omega arith
+
+-- ---- calls for one channel
+-- what a channel's call asks of the parameters and the room
+pub asked : (p : SbcParameters) (c C n : ℕ) → accepted p ≡ true → C ≡ channels p → c < C → frameSamples p ≤ n
+    → Bands (p .subbands) × (p .blocks ≤ 16) × (c < C) × (C ≤ 2) × (p .blocks * p .subbands * C ≤ n)
+unfolding samplesPerChannel frameSamples
+asked p c C n a e h l = (
+  subbands-cases Bands p a (inl refl) (inr refl),
+  ranges p a .blocks-high,
+  h,
+  omega (arith, channels-range p),
+  subst (λ (k : ℕ). p .blocks * p .subbands * k ≤ n) (sym e) l,
+)

@@ -87,14 +87,18 @@ filled size bits = bytesOf size (bits ++ replicate (8 * size - length bits) fals
 
 -- ---- a frame
 
+-- rows of eight: flags of one bit and scale factors of four
+abbrev pub CodingRows : List ℕ → List ℕ → List ℕ → Type 0
+CodingRows flags left-factors right-factors =
+    (length left-factors ≡ 8) × (length right-factors ≡ 8) × ((s : ℕ) → entry flags s ≤ 1) × ((s : ℕ) → entry left-factors s ≤ 15)
+    × ((s : ℕ) → entry right-factors s ≤ 15)
+
 -- what is coded of a frame with these samples of its channels: join flags, scale factors and samples
 pub record CodingIn (p : SbcParameters) (samples : ℕ → List (List ℤ)) (flags left-factors right-factors : List ℕ) (left right : List ℤ) : Type 0 where
   pub flag-is : (s : ℕ) → s < 8 → entry flags s ≡ digit (isJoined p samples s)
   pub factor-is : (c s : ℕ) → c < channels p → s < 8
       → entry (getD (left-factors ∷ right-factors ∷ []) c []) s ≡ factorOf p (λ b. codedAt p samples b c s)
   pub sample-is : (b c s : ℕ) → b < p .blocks → c < channels p → s < 8 → sampleIn (getD (left ∷ right ∷ []) c []) b s ≡ codedAt p samples b c s
-  pub left-small : (s : ℕ) → entry left-factors s ≤ 15
-  pub right-small : (s : ℕ) → entry right-factors s ≤ 15
 
 -- the samples that the channels have, in two arrays
 abbrev pub ChannelsIn : SbcParameters → (ℕ → List (List ℤ)) → List ℤ → List ℤ → Type 0

@@ -25,7 +25,7 @@ ghost use Rattle.sbc_frame.specs.Layout.{pack};
 ghost use Rattle.sbc_frame.specs.Channels.{analyzeBlocks, analysisAfter};
 ghost use Rattle.sbc_frame.specs.Encoding.{encodeFields, analysisHistories};
 ghost use Rattle.sbc_frame.specs.Parts.{entry};
-ghost use Rattle.sbc_frame.specs.Pieces.{pcmIn, SamplesIn, ChannelsIn, CodingIn, codingBits, codingBytes, filled};
+ghost use Rattle.sbc_frame.specs.Pieces.{pcmIn, SamplesIn, ChannelsIn, CodingRows, CodingIn, codingBits, codingBytes, filled};
 
 // What is coded of a frame: join flags, scale factors and samples; rows of eight, and eight places a block.
 struct Coding {
@@ -39,7 +39,8 @@ struct Coding {
 // The channels as they are.
 fn code_plain(parameters: SbcParameters, left: &[i32; 128], right: &[i32; 128]) -> Coding
     requires { ⌜ (accepted parameters ≡ true) × (joinCount parameters ≡ 0) ⌝ }
-    ensures { λ r. ⌜ ((samples : ℕ → List (List ℤ)) → ChannelsIn parameters samples (now (left .entry)) (now (right .entry)) → CodingIn parameters samples (r .flags) (r .«left_factors») (r .«right_factors») (r .left) (r .right)) ⌝ }
+    ensures rows { λ r. ⌜ CodingRows (r .flags) (r .«left_factors») (r .«right_factors») ⌝ }
+    ensures coding { λ r. ⌜ ((samples : ℕ → List (List ℤ)) → ChannelsIn parameters samples (now (left .entry)) (now (right .entry)) → CodingIn parameters samples (r .flags) (r .«left_factors») (r .«right_factors») (r .left) (r .right)) ⌝ }
 {
     let blocks = parameters.blocks as usize;
     Coding {
@@ -54,7 +55,8 @@ fn code_plain(parameters: SbcParameters, left: &[i32; 128], right: &[i32; 128]) 
 // Sum and difference in place of the channels where that takes smaller scale factors.
 fn code_joint(parameters: SbcParameters, left: &[i32; 128], right: &[i32; 128]) -> Coding
     requires { ⌜ (accepted parameters ≡ true) × (joinCount parameters ≡ parameters .subbands) × (length (now left) ≡ 128) × (length (now right) ≡ 128) ⌝ }
-    ensures { λ r. ⌜ ((samples : ℕ → List (List ℤ)) → ChannelsIn parameters samples (now (left .entry)) (now (right .entry)) → CodingIn parameters samples (r .flags) (r .«left_factors») (r .«right_factors») (r .left) (r .right)) ⌝ }
+    ensures rows { λ r. ⌜ CodingRows (r .flags) (r .«left_factors») (r .«right_factors») ⌝ }
+    ensures coding { λ r. ⌜ ((samples : ℕ → List (List ℤ)) → ChannelsIn parameters samples (now (left .entry)) (now (right .entry)) → CodingIn parameters samples (r .flags) (r .«left_factors») (r .«right_factors») (r .left) (r .right)) ⌝ }
 {
     let blocks = parameters.blocks as usize;
     let sums = half_sums(left, right);
@@ -85,7 +87,8 @@ fn code_joint(parameters: SbcParameters, left: &[i32; 128], right: &[i32; 128]) 
 
 fn code(parameters: SbcParameters, left: &[i32; 128], right: &[i32; 128]) -> Coding
     requires { ⌜ (accepted parameters ≡ true) × (length (now left) ≡ 128) × (length (now right) ≡ 128) ⌝ }
-    ensures { λ r. ⌜ ((samples : ℕ → List (List ℤ)) → ChannelsIn parameters samples (now (left .entry)) (now (right .entry)) → CodingIn parameters samples (r .flags) (r .«left_factors») (r .«right_factors») (r .left) (r .right)) ⌝ }
+    ensures rows { λ r. ⌜ CodingRows (r .flags) (r .«left_factors») (r .«right_factors») ⌝ }
+    ensures coding { λ r. ⌜ ((samples : ℕ → List (List ℤ)) → ChannelsIn parameters samples (now (left .entry)) (now (right .entry)) → CodingIn parameters samples (r .flags) (r .«left_factors») (r .«right_factors») (r .left) (r .right)) ⌝ }
 {
     if parameters.join_count() == 0 {
         return code_plain(parameters, left, right);

@@ -2,33 +2,18 @@
 -- Assumes nothing.
 use Prim.Native.Nat.{ℕ, _*_, _≤_, _<_}
 use mathlib.Core.Path.{_≡_, refl, sym, subst}
-use mathlib.Core.Bool.{true}
-use mathlib.Core.Logic.{inl, inr}
 use mathlib.Core.List.{[]}
 use native.Mathlib.Omega.{arith}
 use lib.ListN.{length}
 use borrow.Author.Needs.{needs}
-use Rattle.sbc_parameters.specs.declared.SbcParameters.{SbcParameters}
 use Rattle.sbc_parameters.specs.Parameters.{accepted, channels}
-use Rattle.sbc_parameters.specs.Sizes.{samplesPerChannel, frameSamples}
+use Rattle.sbc_parameters.specs.Sizes.{frameSamples}
 use Rattle.sbc_parameters.proofs.Accepted.{subbands-cases, ranges, channels-range}
-use Rattle.sbc_filterbank.specs.Subbands.{Bands}
 use Rattle.sbc_filterbank.specs.declared.synthesis.Synthesis.{Synthesis}
+use Rattle.sbc_frame.proofs.Blocks.{asked}
 use Rattle.sbc_frame.proofs.Played.{one-played, two-played}
 use Rattle.sbc_frame.proofs.playing.play_frame.Statement.{statement}
 use Rattle.sbc_frame.proofs.playing.play_frame.Tie as tie
-
--- what a channel's call asks of the parameters and the room
-asked : (p : SbcParameters) (c C n : ℕ) → accepted p ≡ true → C ≡ channels p → c < C → frameSamples p ≤ n
-    → Bands (p .subbands) × (p .blocks ≤ 16) × (c < C) × (C ≤ 2) × (p .blocks * p .subbands * C ≤ n)
-unfolding samplesPerChannel frameSamples
-asked p c C n a e h l = (
-  subbands-cases Bands p a (inl refl) (inr refl),
-  ranges p a .blocks-high,
-  h,
-  omega (arith, channels-range p),
-  subst (λ (k : ℕ). p .blocks * p .subbands * k ≤ n) (sym e) l,
-)
 
 -- there are two histories: an array that is passed has its length
 held : (c : tie.Start) → length (c .args .t2) ≡ 2
