@@ -1,5 +1,5 @@
 -- Laws of a frame: the bits of its values, where its fields lie, the frame that is written, what is read from a frame, coding one, playing one,
--- and the analysis of its PCM.
+-- the analysis of its PCM, and what is coded of it.
 pub mod Widths
 pub mod Positions
 pub mod Written
@@ -12,3 +12,4 @@ pub mod Columns
 pub mod Weaving
 pub mod Played
 pub mod Analyzed
+pub mod Chosen

@@ -90,7 +90,7 @@ by-needs Stereo bitpool l l′ r r′ e f = rw (e, f (omega arith))
 by-needs JointStereo bitpool l l′ r r′ e f = rw (e, f (omega arith))
 
 -- join flags are there with two channels only
-joins-two : (p : SbcParameters) (s : ℕ) → s < joinCount p → channels p ≡ 2
+pub joins-two : (p : SbcParameters) (s : ℕ) → s < joinCount p → channels p ≡ 2
 unfolding joinCount
 joins-two p s = go (p .«channel_mode»)
   where
