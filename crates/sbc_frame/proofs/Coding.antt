@@ -113,6 +113,18 @@ pub length-synthesisHistories : (p : SbcParameters) (histories : List Synthesis)
 unfolding synthesisHistories
 length-synthesisHistories p histories f = length-build 2 _
 
+-- ---- without joint stereo
+module _ (p : SbcParameters) (plain : isJoint (p .«channel_mode») ≡ false) (samples : ℕ → List (List ℤ)) where
+  -- no subband is joined
+  pub none-joined : (s : ℕ) → isJoined p samples s ≡ false
+  unfolding isJoined
+  none-joined s = rw plain
+
+  -- and each sample is coded as it is
+  pub coded-alone : (b c s : ℕ) → codedAt p samples b c s ≡ sampleAt (samples c) b s
+  unfolding codedAt
+  coded-alone b c s = rw (none-joined s)
+
 -- ---- dual channel
 -- two frames' fields are the same in channel c
 pub record SameFields (c : ℕ) (f g : Fields) : Type 0 where
@@ -140,10 +152,6 @@ module _ (p : SbcParameters) (dual : p .«channel_mode» ≡ DualChannel) where
   unfolding widthAt
   width-same c s fs gs e = ap (λ (row : List ℕ). getD row s 0) (dual-row p fs gs dual c e)
 
-  coded-alone : (x : ℕ → List (List ℤ)) (b c s : ℕ) → codedAt p x b c s ≡ sampleAt (x c) b s
-  unfolding codedAt isJoined
-  coded-alone x b c s = rw unjoined
-
   module _ (c : ℕ) (hc : c < 2) where
     own : c < channels p
     own = omega (arith, two-channels)
@@ -151,7 +159,7 @@ module _ (p : SbcParameters) (dual : p .«channel_mode» ≡ DualChannel) where
     -- ---- encoding
     module _ (x y : ℕ → List (List ℤ)) (e : x c ≡ y c) where
       at-same : (b s : ℕ) → codedAt p x b c s ≡ codedAt p y b c s
-      at-same b s = coded-alone x b c s ∙ ap (λ (z : List (List ℤ)). sampleAt z b s) e ∙ sym (coded-alone y b c s)
+      at-same b s = coded-alone p unjoined x b c s ∙ ap (λ (z : List (List ℤ)). sampleAt z b s) e ∙ sym (coded-alone p unjoined y b c s)
 
       factors-same : getD (codedFactors p x) c [] ≡ getD (codedFactors p y) c []
       factors-same =

@@ -14,5 +14,6 @@ pub mod Halves
 pub mod Weaving
 pub mod Played
 pub mod Analyzed
+pub mod Chosen
 pub mod Packed
 pub mod Flushing

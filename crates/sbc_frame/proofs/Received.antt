@@ -71,7 +71,7 @@ row-small bytes position count s h8 = go (ltb s count) refl
     go false e = rw (row-rest bytes position 4 count s (ltb-false s count e)) (omega arith)
 
 -- join flags are there with two channels only
-joins-two : (p : SbcParameters) (s : ℕ) → s < joinCount p → channels p ≡ 2
+pub joins-two : (p : SbcParameters) (s : ℕ) → s < joinCount p → channels p ≡ 2
 unfolding joinCount
 joins-two p s = go (p .«channel_mode»)
   where

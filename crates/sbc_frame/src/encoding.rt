@@ -54,7 +54,7 @@ fn code_plain(parameters: SbcParameters, left: &[i32; 128], right: &[i32; 128]) 
 
 // Sum and difference in place of the channels where that takes smaller scale factors.
 fn code_joint(parameters: SbcParameters, left: &[i32; 128], right: &[i32; 128]) -> Coding
-    requires { ⌜ (accepted parameters ≡ true) × (joinCount parameters ≡ parameters .subbands) × (length (now left) ≡ 128) × (length (now right) ≡ 128) ⌝ }
+    requires { ⌜ (accepted parameters ≡ true) × (0 < joinCount parameters) × (length (now left) ≡ 128) × (length (now right) ≡ 128) ⌝ }
     ensures rows { λ r. ⌜ CodingRows (r .flags) (r .«left_factors») (r .«right_factors») ⌝ }
     ensures coding { λ r. ⌜ ((samples : ℕ → List (List ℤ)) → ChannelsIn parameters samples (now (left .entry)) (now (right .entry)) → CodingIn parameters samples (r .flags) (r .«left_factors») (r .«right_factors») (r .left) (r .right)) ⌝ }
 {

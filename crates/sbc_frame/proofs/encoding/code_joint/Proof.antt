@@ -1,70 +1,103 @@
+-- `sbc_frame::encoding::code_joint` meets its contract.
+-- Assumes nothing.
+use Prim.Native.Nat.{_≤_}
+use native.Mathlib.Omega.{arith}
 use borrow.Author.Needs.{needs}
+use Rattle.sbc_parameters.proofs.Accepted.{ranges}
+use Rattle.sbc_frame.proofs.Chosen.{factors-small, joint-rows, joint-coding}
 use Rattle.sbc_frame.proofs.encoding.code_joint.Statement.{statement}
 use Rattle.sbc_frame.proofs.encoding.code_joint.Tie as tie
-use Rattle.sbc_frame.proofs.encoding.code_joint.Reads as reads
-use Rattle.sbc_frame.proofs.encoding.code_joint.Lts as lts
-use Rattle.sbc_frame.proofs.joining.factors_of.Reads as factors-of-reads
-use Rattle.sbc_frame.proofs.joining.half_differences.Reads as half-differences-reads
-use Rattle.sbc_frame.proofs.joining.half_sums.Reads as half-sums-reads
-use Rattle.sbc_frame.proofs.joining.join_flags.Reads as join-flags-reads
-use Rattle.sbc_frame.proofs.joining.pick_row.Reads as pick-row-reads
-use Rattle.sbc_frame.proofs.joining.pick_samples.Reads as pick-samples-reads
 
--- src/encoding.rt:59:18
+-- at most 16 blocks
+few : (s : tie.Start) → s .args .parameters .blocks ≤ 16
+few s = ranges _ (s .pre .0) .blocks-high
+
 cast-blocks : tie.Need-cast-blocks
 cast-blocks c = search needs
 
--- src/encoding.rt:60:16
 half-sums-requires : tie.Need-half-sums-requires
 half-sums-requires c κs = search needs
 
--- src/encoding.rt:61:23
 half-differences-requires : tie.Need-half-differences-requires
 half-differences-requires c κs = search needs
 
--- src/encoding.rt:62:22
 factors-of-requires : tie.Need-factors-of-requires
-factors-of-requires c κs = ?
+factors-of-requires c κs = few (c .before .before .before)
 
--- src/encoding.rt:63:23
 factors-of-requires-2 : tie.Need-factors-of-requires-2
-factors-of-requires-2 c κs = ?
+factors-of-requires-2 c κs = few (c .before .before .before .before)
 
--- src/encoding.rt:64:23
 factors-of-requires-3 : tie.Need-factors-of-requires-3
-factors-of-requires-3 c κs = ?
+factors-of-requires-3 c κs = few (c .before .before .before .before .before .before)
 
--- src/encoding.rt:65:24
 factors-of-requires-4 : tie.Need-factors-of-requires-4
-factors-of-requires-4 c κs = ?
+factors-of-requires-4 c κs = few (c .before .before .before .before .before .before .before .before)
 
--- src/encoding.rt:71:9
 cast-join-flags : tie.Need-cast-join-flags
 cast-join-flags c = search needs
 
--- src/encoding.rt:66:17
 join-flags-requires : tie.Need-join-flags-requires
-join-flags-requires c κs = ?
+join-flags-requires c κs =
+    let after-factors = c .before .before .before .before .before in
+    let after-plain = after-factors .before .before .before .before in
+    let s = after-plain .before .before .before .before .before in
+    let sizes = ranges _ (s .pre .0) in (
+      omega (arith, sizes .subbands-low),
+      sizes .subbands-high,
+      λ s. rw (after-plain .before .factors-of .ensures) (factors-small _ _ s),
+      λ s. rw (after-plain .factors-of2 .ensures) (factors-small _ _ s),
+      λ s. rw (after-factors .before .before .factors-of3 .ensures) (factors-small _ _ s),
+      λ s. rw (after-factors .factors-of4 .ensures) (factors-small _ _ s),
+    )
 
--- src/encoding.rt:75:5
 pick-samples-requires : tie.Need-pick-samples-requires
-pick-samples-requires c κs = ?
+pick-samples-requires c κs =
+    let after-factors = c .before .before .before .before .before .before .before .before .before .before .before in
+    let s = after-factors .before .before .before .before .before .before .before .before .before in (s .pre .2, few s)
 
--- src/encoding.rt:76:5
 pick-samples-requires-2 : tie.Need-pick-samples-requires-2
-pick-samples-requires-2 c κs = ?
+pick-samples-requires-2 c κs =
+    let after-factors = c .before .before .before .before .before .before .before .before .before .before .before .before .before .before .before in
+    let s = after-factors .before .before .before .before .before .before .before .before .before in (s .pre .3, few s)
 
--- src/encoding.rt:79:23
 pick-row-requires : tie.Need-pick-row-requires
 pick-row-requires c κs = search needs
 
--- src/encoding.rt:80:24
 pick-row-requires-2 : tie.Need-pick-row-requires-2
 pick-row-requires-2 c κs = search needs
 
--- src/encoding.rt:55:1
 returns : tie.Need-returns
-returns c = ?
+returns c =
+    let after-right = c .before .before .before .before .before .before .before .before in
+    let after-left = after-right .before .before .before .before in
+    let after-flags = after-left .before .before .before .before .before .before in
+    let after-factors = after-flags .before .before .before .before .before .before in
+    let after-plain = after-factors .before .before .before .before in
+    let after-sums = after-plain .before .before .before in
+    let s = after-sums .before .before in
+    let sums = after-sums .half-sums .ensures in
+    let differences = after-plain .before .before .half-differences .ensures in
+    let plain-left = after-plain .before .factors-of .ensures in
+    let plain-right = after-plain .factors-of2 .ensures in
+    let joined-left = after-factors .before .before .factors-of3 .ensures in
+    let joined-right = after-factors .factors-of4 .ensures in
+    let flags = after-flags .join-flags .ensures in
+    rw (
+      c .before .before .before .before .pick-row .ensures,
+      c .pick-row2 .ensures,
+      flags,
+      plain-left,
+      plain-right,
+      joined-left,
+      joined-right,
+      sums,
+      differences,
+    ) (
+      joint-rows _ _ _ _ _ _,
+      λ samples given. joint-coding _ (s .pre .0) samples _ _ given (s .pre .1) _ _
+          (rw (flags, plain-left, plain-right, joined-left, joined-right, sums, differences) at (after-left .pick-samples .ensures .1))
+          (rw (flags, plain-left, plain-right, joined-left, joined-right, sums, differences) at (after-right .pick-samples2 .ensures .1)),
+    )
 
 pub code-joint-spec : {M : Type 1} → statement M
 code-joint-spec =

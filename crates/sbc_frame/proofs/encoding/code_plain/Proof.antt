@@ -1,25 +1,25 @@
+-- `sbc_frame::encoding::code_plain` meets its contract.
+-- Assumes nothing.
 use borrow.Author.Needs.{needs}
+use Rattle.sbc_parameters.proofs.Accepted.{ranges}
+use Rattle.sbc_frame.proofs.Chosen.{plain-rows, plain-coding}
 use Rattle.sbc_frame.proofs.encoding.code_plain.Statement.{statement}
 use Rattle.sbc_frame.proofs.encoding.code_plain.Tie as tie
-use Rattle.sbc_frame.proofs.encoding.code_plain.Reads as reads
-use Rattle.sbc_frame.proofs.encoding.code_plain.Lts as lts
-use Rattle.sbc_frame.proofs.joining.factors_of.Reads as factors-of-reads
 
--- src/encoding.rt:44:18
 cast-blocks : tie.Need-cast-blocks
 cast-blocks c = search needs
 
--- src/encoding.rt:47:23
 factors-of-requires : tie.Need-factors-of-requires
-factors-of-requires c κs = ?
+factors-of-requires c κs = ranges _ (c .before .pre .0) .blocks-high
 
--- src/encoding.rt:48:24
 factors-of-requires-2 : tie.Need-factors-of-requires-2
-factors-of-requires-2 c κs = ?
+factors-of-requires-2 c κs = ranges _ (c .before .before .pre .0) .blocks-high
 
--- src/encoding.rt:40:1
 returns : tie.Need-returns
-returns c = ?
+returns c =
+    let s = c .before .before .before .before .before in
+    rw (c .before .before .before .factors-of .ensures, c .before .before .factors-of2 .ensures)
+    (plain-rows _ _ _, λ samples given. plain-coding _ (s .pre .0) samples _ _ given (s .pre .1))
 
 pub code-plain-spec : {M : Type 1} → statement M
 code-plain-spec =
