@@ -6,6 +6,7 @@ pub mod Answering
 pub mod Taking
 pub mod Turning
 pub mod Writing
+pub mod Framing
 pub mod Refusals
 pub mod NextCall
 pub mod Untouched

@@ -12,9 +12,13 @@ use Rattle.sbc_parameters.specs.Sizes.{frameLength, frameSamples}
 use Rattle.sbc_parameters.specs.declared.SbcParameters.{SbcParameters}
 use Rattle.sbc_parameters.specs.declared.SbcChannelMode.the-variants.{DualChannel}
 use Rattle.sbc.specs.Answers.{progressOf, wholeFrames}
-use Rattle.sbc.specs.Encode.{newEncoder, encode}
-use Rattle.sbc.specs.Decode.{newDecoder, finish, decode}
+use Rattle.sbc.specs.Encode.{newEncoder, Encoded, encode}
+use Rattle.sbc.specs.Decode.{newDecoder, finish, Decoded, decode}
+use Rattle.sbc.specs.Told.{toldCreated, toldEncoded, toldDecoded}
 use Rattle.sbc.specs.declared.Progress.{Progress}
+use Rattle.sbc.specs.declared.Created.{Created}
+use Rattle.sbc.specs.declared.EncodeResult.{EncodeResult}
+use Rattle.sbc.specs.declared.DecodeResult.{DecodeResult}
 use Rattle.sbc.specs.declared.SbcEncoder.{SbcEncoder}
 use Rattle.sbc.specs.declared.SbcDecoder.{SbcDecoder}
 
@@ -46,36 +50,48 @@ pub record After : Type 0 where
   pub result : Result
 
 module _ (p : SbcParameters) where
-  unfoldable pub afterEncode : State → List ℤ → List ℕ → After
-  afterEncode s pcm output =
-      let r = encode (s .encoder) pcm output in
+  -- after an encode call
+  abbrev pub encodedAfter : State → List ℤ → List ℕ → Encoded → After
+  encodedAfter s pcm output r =
       let n = wholeFrames (length pcm) (frameSamples p) (length output) (frameLength p) in
       record {
         state = record { encoder = r .encoder; decoder = s .decoder; stream = s .stream ++ take (n * frameLength p) (r .output) };
         result = record { answer = r .answer; n = n; heard = [] };
       }
 
-  unfoldable pub afterDecode : State → ℕ → ℕ → List ℤ → After
-  afterDecode s start size output =
-      let piece = take size (drop (start * frameLength p) (s .stream)) in
-      let r = decode (s .decoder) piece output in
+  unfoldable pub afterEncode : State → List ℤ → List ℕ → After
+  afterEncode s pcm output = encodedAfter s pcm output (encode (s .encoder) pcm output)
+
+  -- after `finish`
+  abbrev pub finishedAfter : State → SbcDecoder → After
+  finishedAfter s d =
+      record {
+        state = record { encoder = s .encoder; decoder = d; stream = s .stream };
+        result = record { answer = gives (progressOf 0 0); n = 0; heard = [] };
+      }
+
+  -- after a decode call
+  abbrev pub pieceOf : State → ℕ → ℕ → List ℕ
+  pieceOf s start size = take size (drop (start * frameLength p) (s .stream))
+
+  abbrev pub decodedAfter : State → ℕ → ℕ → List ℤ → Decoded → After
+  decodedAfter s start size output r =
       record {
         state = record { encoder = s .encoder; decoder = r .decoder; stream = s .stream };
         result =
             record {
               answer = r .answer;
-              n = wholeFrames (length piece) (frameLength p) (length output) (frameSamples p);
+              n = wholeFrames (length (pieceOf s start size)) (frameLength p) (length output) (frameSamples p);
               heard = r .output;
             };
       }
 
+  unfoldable pub afterDecode : State → ℕ → ℕ → List ℤ → After
+  afterDecode s start size output = decodedAfter s start size output (decode (s .decoder) (pieceOf s start size) output)
+
   unfoldable pub after : State → Action → After
   after s (encodes pcm output) = afterEncode s pcm output
-  after s finishes =
-      record {
-        state = record { encoder = s .encoder; decoder = finish (s .decoder); stream = s .stream };
-        result = record { answer = gives (progressOf 0 0); n = 0; heard = [] };
-      }
+  after s finishes = finishedAfter s (finish (s .decoder))
   after s (decodes start size output) = afterDecode s start size output
 
   -- each call gets the encoder or decoder as the last one left it, unchanged after a refusal
@@ -119,3 +135,30 @@ TwoLanguages =
     (c : ℕ) → c < 2 → (xs ys : List Action) → AllAlike c xs ys →
     let start : State = record { encoder = e; decoder = newDecoder; stream = [] } in
     SameResults p c (run p start xs) (run p start ys)
+
+-- ---- the same of the code: whatever its calls give, as far as the contracts of `SbcEncoder::new`, `SbcEncoder::encode`, `SbcDecoder::new`,
+-- `SbcDecoder::finish` and `SbcDecoder::decode` tell, which are the equations below
+
+module _ (p : SbcParameters) where
+  -- a call of the code: what it gave back, and its output after the call
+  pub data Called (s : State) : Action → After → Type 0 where
+    encode-called : {pcm : List ℤ} {output : List ℕ} (r : EncodeResult) (exit : List ℕ) → toldEncoded r exit ≡ encode (s .encoder) pcm output
+        → Called s (encodes pcm output) (encodedAfter p s pcm output (toldEncoded r exit))
+    finish-called : (d : SbcDecoder) → d ≡ finish (s .decoder) → Called s finishes (finishedAfter p s d)
+    decode-called : {start size : ℕ} {output : List ℤ} (r : DecodeResult) (exit : List ℤ)
+        → toldDecoded r exit ≡ decode (s .decoder) (pieceOf p s start size) output
+        → Called s (decodes start size output) (decodedAfter p s start size output (toldDecoded r exit))
+
+  -- a run of the code: each call gets the encoder or decoder that the last one gave back
+  pub data CodeRun : State → List Action → List Result → Type 0 where
+    none : {s : State} → CodeRun s [] []
+    one : {s : State} {a : Action} {x : After} {actions : List Action} {results : List Result} → Called s a x
+        → CodeRun (x .state) actions results → CodeRun s (a ∷ actions) (x .result ∷ results)
+
+-- The claim of the code: an encoder that `SbcEncoder::new` accepted, a decoder that `SbcDecoder::new` gave.
+abbrev pub CodeTwoLanguages : Type 0
+CodeTwoLanguages =
+    (p : SbcParameters) (created : Created) (d : SbcDecoder) → toldCreated created ≡ newEncoder p → toldCreated created ≡ gives (created .encoder)
+    → d ≡ newDecoder → p .«channel_mode» ≡ DualChannel → (c : ℕ) → c < 2 → (xs ys : List Action) → AllAlike c xs ys →
+    let start : State = record { encoder = created .encoder; decoder = d; stream = [] } in
+    (results₁ results₂ : List Result) → CodeRun p start xs results₁ → CodeRun p start ys results₂ → SameResults p c results₁ results₂

@@ -1,0 +1,16 @@
+-- `SbcEncoder::reset` meets its contract.
+-- Assumes nothing.
+use Rattle.sbc.specs.Encode.{resetEncoder}
+use borrow.Author.Needs.{needs}
+use Rattle.sbc.proofs.SbcEncoder.reset.Statement.{statement}
+use Rattle.sbc.proofs.SbcEncoder.reset.Tie as tie
+
+silent-encoder-requires : tie.Need-silent-encoder-requires
+silent-encoder-requires c κs = search needs
+
+returns : tie.Need-returns
+unfolding resetEncoder
+returns c = c .silent-encoder .ensures
+
+pub reset-spec : {M : Type 1} → statement M
+reset-spec = tie.close (tie.spec silent-encoder-requires returns)
