@@ -1,8 +1,9 @@
 //! The benchmark's driver: the same inputs through the oracle (rust) or the proved crates (rattle).
 //!
 //!     driver KERNEL rust|rattle N      runs the kernel N times and prints a digest of what it gave, the same for both
+use nanoaudio_core::codec::{Decoder, Encoder};
 use nanoaudio_sbc::exports;
-use nanoaudio_sbc::{SbcAllocation, SbcChannelMode, SbcParameters};
+use nanoaudio_sbc::{SbcAllocation, SbcChannelMode, SbcDecoder, SbcEncoder, SbcParameters};
 use nanoaudio_sbc_blocks::exports_of_blocks;
 
 unsafe extern "C" {
@@ -13,6 +14,19 @@ unsafe extern "C" {
     fn rattle_reconstruct_blocks(bits: *const [u8; 8], scale_factors: *const [u8; 8], quantized: *const [u32; 128], output: *mut [i32; 128]);
     fn rattle_synthesize(values: *mut [i32; 160], input: *const [i32; 8], output: *mut [i16; 8], newest: usize, subbands: usize);
     fn rattle_analyze(history: *mut [i16; 80], input: *const [i16; 8], output: *mut [i32; 8], subbands: usize);
+    fn rattle_decode(input: *const u8, input_length: usize, output: *mut i16, output_length: usize, progress: *mut [u64; 2]);
+    fn rattle_encode(
+        rate: u32,
+        mode: u8,
+        blocks: u8,
+        subbands: u8,
+        bitpool: u8,
+        input: *const i16,
+        input_length: usize,
+        output: *mut u8,
+        output_length: usize,
+        progress: *mut [u64; 2],
+    );
     fn rattle_scale_factor(maximum: u32) -> u8;
     fn rattle_allocate(rate: u32, mode: u8, allocation: u8, subbands: u8, bitpool: u8, left: *mut [u8; 8], right: *mut [u8; 8]);
 }
@@ -206,6 +220,87 @@ fn analyze(rattle: bool, n: u64, subbands: usize) -> u64 {
     digest
 }
 
+/// The Rust's calls, in functions whose names `run` counts.
+mod exports_of_calls {
+    use super::*;
+
+    #[inline(never)]
+    pub fn decode(input: &[u8], output: &mut [i16]) -> [u64; 2] {
+        let progress = SbcDecoder::new().decode(input, output).unwrap();
+        [progress.consumed as u64, progress.produced as u64]
+    }
+
+    #[inline(never)]
+    pub fn encode(parameters: &SbcParameters, input: &[i16], output: &mut [u8]) -> [u64; 2] {
+        let progress = SbcEncoder::new(*parameters).unwrap().encode(input, output).unwrap();
+        [progress.consumed as u64, progress.produced as u64]
+    }
+}
+
+const HIGH_QUALITY: SbcParameters = SbcParameters {
+    sample_rate: 44_100,
+    channel_mode: SbcChannelMode::JointStereo,
+    allocation: SbcAllocation::Loudness,
+    blocks: 16,
+    subbands: 8,
+    bitpool: 53,
+};
+
+const MSBC: SbcParameters =
+    SbcParameters { sample_rate: 16_000, channel_mode: SbcChannelMode::Mono, allocation: SbcAllocation::Loudness, blocks: 15, subbands: 8, bitpool: 26 };
+
+const DUAL: SbcParameters = SbcParameters { channel_mode: SbcChannelMode::DualChannel, bitpool: 40, ..HIGH_QUALITY };
+
+const JOINT_4: SbcParameters = SbcParameters { subbands: 4, bitpool: 30, ..HIGH_QUALITY };
+
+/// PCM that sounds like something: a few tones that come and go, alike in both channels and not the same, and noise.
+fn pcm(parameters: &SbcParameters, frames: u64) -> Vec<i16> {
+    let mut draw = Draw(8);
+    let channels = parameters.channels() as u64;
+    let samples = frames * parameters.blocks as u64 * parameters.subbands as u64;
+    (0..samples * channels)
+        .map(|i| {
+            let t = (i / channels) as f64 / parameters.sample_rate as f64;
+            let side = (i % channels) as f64;
+            let tone = |hertz: f64, slow: f64| (t * hertz * 6.283).sin() * (0.5 + 0.5 * (t * slow * 6.283 + side).sin());
+            let noise = (draw.next() % 512) as f64 - 256.0;
+            ((tone(220.0, 1.0) * 9000.0 + tone(1760.0 + 40.0 * side, 2.5) * 4000.0 + tone(5200.0, 0.7) * 1500.0) + noise) as i16
+        })
+        .collect()
+}
+
+/// One call over a stream of n frames.
+fn decode(rattle: bool, n: u64, parameters: &SbcParameters) -> u64 {
+    let pcm = pcm(parameters, n);
+    let mut stream = vec![0u8; n as usize * parameters.frame_length()];
+    SbcEncoder::new(*parameters).unwrap().encode(&pcm, &mut stream).unwrap();
+    let mut output = vec![0i16; pcm.len()];
+    let mut progress = [0u64; 2];
+    if rattle {
+        unsafe { rattle_decode(stream.as_ptr(), stream.len(), output.as_mut_ptr(), output.len(), &mut progress) };
+    } else {
+        progress = exports_of_calls::decode(&stream, &mut output);
+    }
+    assert_eq!(progress, [stream.len() as u64, output.len() as u64]);
+    output.iter().fold(0, |digest, sample| mix(digest, *sample as u64))
+}
+
+/// One call over PCM of n frames.
+fn encode(rattle: bool, n: u64, p: &SbcParameters) -> u64 {
+    let pcm = pcm(p, n);
+    let mut stream = vec![0xAAu8; n as usize * p.frame_length()];
+    let mut progress = [0u64; 2];
+    if rattle {
+        let mode = MODES.iter().position(|mode| *mode == p.channel_mode).unwrap() as u8;
+        let (input, output) = ((pcm.as_ptr(), pcm.len()), (stream.as_mut_ptr(), stream.len()));
+        unsafe { rattle_encode(p.sample_rate, mode, p.blocks, p.subbands, p.bitpool, input.0, input.1, output.0, output.1, &mut progress) };
+    } else {
+        progress = exports_of_calls::encode(p, &pcm, &mut stream);
+    }
+    assert_eq!(progress, [pcm.len() as u64, stream.len() as u64]);
+    stream.iter().fold(0, |digest, byte| mix(digest, *byte as u64))
+}
+
 fn main() {
     let words: Vec<String> = std::env::args().collect();
     let rattle = words[2] == "rattle";
@@ -225,6 +320,14 @@ fn main() {
         "reconstruct_16_blocks" => reconstruct_blocks(rattle, n),
         "scale_factor_8_values" => scale_factor(rattle, n),
         "checksum" => checksum(rattle, n),
+        "decode_high_quality" => decode(rattle, n, &HIGH_QUALITY),
+        "decode_msbc" => decode(rattle, n, &MSBC),
+        "decode_dual_8" => decode(rattle, n, &DUAL),
+        "decode_joint_4" => decode(rattle, n, &JOINT_4),
+        "encode_high_quality" => encode(rattle, n, &HIGH_QUALITY),
+        "encode_msbc" => encode(rattle, n, &MSBC),
+        "encode_dual_8" => encode(rattle, n, &DUAL),
+        "encode_joint_4" => encode(rattle, n, &JOINT_4),
         other => panic!("no kernel {other}"),
     };
     println!("{digest:016x}");
