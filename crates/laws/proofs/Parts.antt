@@ -1,13 +1,14 @@
--- Laws of parts of lists: a part taken out, a part that the list may end before, and a part replaced in place.
+-- Laws of parts of lists: a part taken out, a part that the list may end before, a part replaced in place, and the tail of a slice, lent and come back.
 -- Assumes nothing.
 use Prim.Native.Nat.{ℕ, zero, suc, _+_, _-_, _≤_, min}
 use mathlib.Core.Path.{_≡_, sym, ap, ap₂, _∙_}
-use mathlib.Core.List.{List, [], _∷_, _++_, append-assoc}
+use mathlib.Core.List.{List, [], _∷_, _++_, append-assoc, append-nil}
 use native.Mathlib.Nat.{add-zero, add-assoc}
 use native.Mathlib.Numerals.{unary-clauses}
 use native.Mathlib.Omega.{arith}
 use lib.ListN.{length, take, drop, length-append, length-drop, take-append-drop}
-use lib.Seq.{length-take-le, take-append-le, drop-append-le, take-append-add, drop-append-add, take-at, drop-at, drop-drop}
+use lib.Seq.{length-take-le, take-all, take-append-le, drop-append-le, take-append-add, drop-append-add, take-at, drop-at, drop-drop, drop-length}
+use borrow.Rule.Slice.PartMut.{putMid, post-is}
 
 module _ {ℓ} {A : Type ℓ} where
   -- ---- a part of a list that may end before it
@@ -99,3 +100,14 @@ module _ {ℓ} {A : Type ℓ} where
       let d : drop (length xs + (at + n)) (xs ++ (ys ++ zs)) ≡ drop (at + n) ys ++ zs =
       drop-append-add xs (ys ++ zs) (at + n) ∙ drop-append-le (at + n) ys zs h in
       rw (← e, add-assoc, t, d) (simp append-assoc)
+
+-- ---- the tail of a slice, lent and come back
+
+-- what is lent is what is left
+pub tail-part : {A : Type 0} (a : ℕ) (xs : List A) → take (length xs - a) (drop a xs) ≡ drop a xs
+tail-part a xs = take-all (length xs - a) (drop a xs) (omega (arith, length-drop a xs))
+
+-- what comes back stands behind what was not lent
+pub put-tail : {A : Type 0} (a : ℕ) (xs ys : List A) → a ≤ length xs → putMid a (length xs - a) xs ys ≡ take a xs ++ ys
+put-tail a xs ys h =
+    ap (λ z. take a xs ++ (ys ++ z)) (post-is a (length xs) xs h ∙ drop-length xs) ∙ ap (λ z. take a xs ++ z) (append-nil ys)

@@ -1,14 +1,13 @@
 -- The decode loop: its invariant holds at the start and after each frame that is taken, and where a turn takes none it gives the whole call.
 -- Assumes nothing.
-use Prim.Native.Nat.{ℕ, _+_, _-_, _≤_, _<_}
+use Prim.Native.Nat.{ℕ, _+_, _≤_, _<_}
 use mathlib.Core.Path.{_≡_, refl, sym, ap, ap₂, _∙_}
-use mathlib.Core.List.{List, _++_, append-assoc, append-nil}
+use mathlib.Core.List.{List, _++_, append-assoc}
 use native.Mathlib.Nat.{add-zero, add-assoc, zero-add}
 use native.Mathlib.Omega.{arith}
 use lib.IntN.{ℤ}
 use lib.ListN.{length, take, drop, length-append, length-drop}
-use lib.Seq.{take-all, drop-length, length-take-le, take-append-add, drop-drop}
-use borrow.Rule.Slice.PartMut.{putMid, post-is}
+use lib.Seq.{length-take-le, take-append-add, drop-drop}
 use Rattle.sbc_parameters.specs.Sizes.{frameLength}
 use Rattle.sbc_frame.specs.Layout.{unpack}
 use Rattle.sbc.specs.Answers.{progressOf, addProgress}
@@ -16,17 +15,6 @@ use Rattle.sbc.specs.Decode.{Step, none-whole, refused, taken, Turn, pla
 use Rattle.sbc.specs.declared.Progress.{Progress}
 use Rattle.sbc.specs.declared.SbcDecoder.{SbcDecoder}
 use Rattle.sbc.proofs.Taking.{turn-cases, kept, length-next, more, drop-both, length-some, decode-unrolled}
-
--- ---- the tail of a slice, lent and come back
-
--- what is lent is what is left
-pub tail-part : {A : Type 0} (a : ℕ) (xs : List A) → take (length xs - a) (drop a xs) ≡ drop a xs
-tail-part a xs = take-all (length xs - a) (drop a xs) (omega (arith, length-drop a xs))
-
--- what comes back stands behind what was not lent
-pub put-tail : {A : Type 0} (a : ℕ) (xs ys : List A) → a ≤ length xs → putMid a (length xs - a) xs ys ≡ take a xs ++ ys
-put-tail a xs ys h =
-    ap (λ z. take a xs ++ (ys ++ z)) (post-is a (length xs) xs h ∙ drop-length xs) ∙ ap (λ z. take a xs ++ z) (append-nil ys)
 
 -- ---- a turn
 

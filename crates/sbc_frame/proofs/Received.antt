@@ -37,7 +37,7 @@ use Rattle.sbc_frame.specs.Fields.{Fields, joinAt, factorAt, valueAt, wi
 use Rattle.sbc_frame.specs.Layout.{factorPosition, valuePosition, readJoin, readFactors, readValues, unpack}
 use Rattle.sbc_frame.specs.Decoding.{reconstructedAt, decodedAt}
 use Rattle.sbc_frame.specs.Parts.{below, rowAt, flagRow, leftFactors, rightFactors, valueOf, sampleIn, Small, entry, ChannelIn, FrameIn}
-use Rattle.sbc_frame.proofs.Widths.{Enough, block-width, allocate-agree, table-width, row-width, rows-width}
+use Rattle.sbc_frame.proofs.Widths.{Enough, rows-enough, block-width, allocate-agree, table-width, row-width, rows-width}
 use Rattle.sbc_frame.proofs.Positions.{flags-inside, factor-inside, value-inside, frame-room}
 use Rattle.sbc_frame.proofs.Reading.{enough-factors, read-value}
 
@@ -186,14 +186,9 @@ module _ (p : SbcParameters) (a : accepted p ≡ true) (frame : List ℕ) (long 
 
   -- ---- widths
   enough-rows : Enough p factorRows
-  enough-rows zero hc = omega (arith, length-rowAt bytesOf (32 + joinCount p) 4 (p .subbands), ranges p a .subbands-high)
-  enough-rows (suc zero) hc =
-      omega (
-        arith,
-        length-rowAt bytesOf (32 + joinCount p + 4 * p .subbands) 4 (p .subbands * (channels p - 1)),
-        ranges p a .subbands-high,
-      )
-  enough-rows (suc (suc c)) hc = absurd (omega (arith, channels-range p .1))
+  enough-rows =
+      rows-enough p a (leftFactors p bytesOf) (rightFactors p bytesOf) (length-rowAt bytesOf (32 + joinCount p) 4 (p .subbands))
+      (length-rowAt bytesOf (32 + joinCount p + 4 * p .subbands) 4 (p .subbands * (channels p - 1)))
 
   allocate-same : allocate p factorRows ≡ allocate p (readFactors p frame)
   unfolding unpack

@@ -71,6 +71,12 @@ two w = omega arith
 abbrev pub Enough : SbcParameters → List (List ℕ) → Type 0
 Enough p factors = (c : ℕ) → c < channels p → p .subbands ≤ length (getD factors c [])
 
+-- two rows of eight do
+pub rows-enough : (p : SbcParameters) → accepted p ≡ true → (left right : List ℕ) → length left ≡ 8 → length right ≡ 8 → Enough p (left ∷ right ∷ [])
+rows-enough p a left right l r zero hc = omega (arith, ranges p a .subbands-high)
+rows-enough p a left right l r (suc zero) hc = omega (arith, ranges p a .subbands-high)
+rows-enough p a left right l r (suc (suc c)) hc = absurd (omega (arith, channels-range p .1))
+
 module _ (p : SbcParameters) (factors : List (List ℕ)) (a : accepted p ≡ true) (enough : Enough p factors) where
   row-sum : (c : ℕ) → sum (map (entryAt (allocate p factors)) (placesOf (p .subbands) c)) ≡ channelWidth p factors c
   unfolding channelWidth widthAt

@@ -8,12 +8,13 @@ use native.Mathlib.Omega.{arith}
 use lib.IntN.{ℤ}
 use lib.ListN.{length, take, drop, length-drop}
 use borrow.Rule.Slice.PartMut.{putMid}
+use Rattle.laws.proofs.Parts.{tail-part, put-tail}
 use Rattle.sbc_parameters.specs.Errors.{errorNumber}
 use Rattle.sbc.specs.Answers.{toldCoded, progressOf}
 use Rattle.sbc.specs.Decode.{none-whole, taken, decodeNext, answerOf, Decoded}
 use Rattle.sbc.specs.Told.{toldOutcome, toldTurn, toldDecoded}
 use Rattle.sbc.specs.declared.Progress.{Progress}
-use Rattle.sbc.proofs.Turning.{tail-part, put-tail, turn-takes, Turning, start, found, back, length-back, turn, stops-none, stops-refused}
+use Rattle.sbc.proofs.Turning.{turn-takes, Turning, start, found, back, length-back, turn, stops-none, stops-refused}
 use borrow.Author.Needs.{needs}
 use Rattle.sbc.proofs.SbcDecoder.decode.Statement.{statement}
 use Rattle.sbc.proofs.SbcDecoder.decode.Tie as tie
