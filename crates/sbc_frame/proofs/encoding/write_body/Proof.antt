@@ -229,7 +229,7 @@ finish-requires : tie.Need-finish-requires
 finish-requires c κs =
     let b = c .before .before in
     let k = here₄ b in
-    (b .before .put-values .ensures .1 .0, omega (arith, at₄ b, long₄ b, room k .1))
+    (b .before .put-values .ensures .1 .0, omega (arith, at₄ b, long₄ b, room k .1), λ i. omega (arith, c .before .slice-known5 .given i))
 
 same-length : tie.Need-same-length
 same-length c = c .before .body5 .given ∙ long₄ (c .before .before .before .before .before)
