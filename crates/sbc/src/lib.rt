@@ -11,6 +11,7 @@ ghost use mathlib.Core.Path.{_≡_};
 ghost use mathlib.Core.Bool.{true};
 ghost use mathlib.Core.List.{_++_};
 ghost use Prim.Native.Nat.{_-_, _*_, _≤_, min};
+ghost use lib.Dec.{eqb};
 ghost use lib.ListN.{length, take, drop};
 ghost use Rattle.laws.specs.Answers.{gives};
 ghost use Rattle.sbc_parameters.specs.Errors.{errorNumber};
@@ -298,7 +299,7 @@ impl SbcDecoder {
         match last {
             LastParameters::None => no_histories(),
             LastParameters::Some(before) => {
-                if before.subbands == parameters.subbands {
+                if same_subbands(before, parameters) {
                     return self.synthesis;
                 }
                 no_histories()
@@ -509,6 +510,13 @@ fn seek_frame(parameters: SbcParameters, position: u64) -> u64
         return 0;
     }
     (block - SYNTHESIS_HISTORY_BLOCKS) / parameters.blocks as u64
+}
+
+// Whether two sets have as many subbands.
+fn same_subbands(before: SbcParameters, parameters: SbcParameters) -> bool
+    ensures { λ r. ⌜ r ≡ eqb (before .subbands) (parameters .subbands) ⌝ }
+{
+    before.subbands == parameters.subbands
 }
 
 // The lesser of two numbers.

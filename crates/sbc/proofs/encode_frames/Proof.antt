@@ -14,7 +14,7 @@ use Rattle.sbc_parameters.specs.declared.SbcParameters.{SbcParameters}
 use Rattle.sbc_frame.specs.Layout.{pack}
 use Rattle.sbc_frame.specs.Encoding.{encodeFields, analysisHistories}
 use Rattle.sbc.proofs.Framing.{Framing, no-frame, length-framing, next-frame}
-use Rattle.sbc.proofs.Turning.{tail-part}
+use Rattle.laws.proofs.Parts.{tail-part}
 use borrow.Author.Needs.{needs}
 use Rattle.sbc.proofs.encode_frames.Statement.{statement}
 use Rattle.sbc.proofs.encode_frames.Tie as tie

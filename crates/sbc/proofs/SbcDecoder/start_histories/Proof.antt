@@ -2,7 +2,6 @@
 -- Assumes nothing.
 use mathlib.Core.Path.{_≡_, refl, sym, ap, _∙_}
 use mathlib.Core.Bool.{Bool, true, false}
-use borrow.Author.Tests.{eq-eqb, ne-eqb}
 use Rattle.laws.specs.Choice.{if_then_else_}
 use Rattle.sbc_parameters.specs.declared.SbcParameters.{SbcParameters}
 use Rattle.sbc.specs.Decode.{cleared, sameSubbands, startHistories}
@@ -28,14 +27,17 @@ starts : (p : SbcParameters) (d : SbcDecoder) (last : LastParameters) (t : Bool)
 unfolding startHistories
 starts p d last t e h = sym (ap (λ b. if b then d .synthesis else cleared) (ap (sameSubbands p) e ∙ h))
 
+same-subbands-requires : tie.Need-same-subbands-requires
+same-subbands-requires c κs = search needs
+
 returns : tie.Need-returns
 unfolding sameSubbands
 returns c =
-    let known = c .before .before .before .before .before in
+    let known = c .before .before .before .before in
     let start = known .before .before in
     let q = known .last .given .0 .0 in
     starts (start .args .parameters) (start .args .self) (Some q) true (known .last .given .1)
-    (eq-eqb (q .subbands) (start .args .parameters .subbands) (c .before .if1 .taken))
+    (sym (c .before .before .same-subbands .ensures) ∙ c .before .if1 .taken)
 
 no-histories-requires-2 : tie.Need-no-histories-requires-2
 no-histories-requires-2 c κs = search needs
@@ -49,12 +51,12 @@ returns-2 c =
 returns-3 : tie.Need-returns-3
 unfolding sameSubbands
 returns-3 c =
-    let known = c .before .before .before .before .before in
+    let known = c .before .before .before .before in
     let start = known .before .before in
     let q = known .last .given .0 .0 in
     c .no-histories2 .ensures
     ∙ starts (start .args .parameters) (start .args .self) (Some q) false (known .last .given .1)
-    (ne-eqb (q .subbands) (start .args .parameters .subbands) (c .before .if1 .left))
+    (sym (c .before .before .same-subbands .ensures) ∙ c .before .if1 .left)
 
 pub start-histories-spec : {M : Type 1} → statement M
 start-histories-spec =
@@ -63,6 +65,7 @@ start-histories-spec =
     enum-told
     no-histories-requires
     enum-known-last
+    same-subbands-requires
     returns
     no-histories-requires-2
     returns-2
