@@ -1,9 +1,9 @@
 // CRC-8 with the polynomial hexadecimal 1D, high bit first, bit by bit.
 ghost use mathlib.Core.Path.{_≡_};
-ghost use Prim.Native.Nat.{min};
 ghost use lib.ListN.{take};
 ghost use Rattle.laws.specs.Bits.{odd, bitsOf, bitsOfBytes};
 ghost use Rattle.crc8.specs.Checksum.{crcStep, crcBits, checksum};
+use laws::least;
 
 const POLYNOMIAL: u8 = 0x1D;
 
@@ -47,15 +47,8 @@ pub fn update(crc: u8, bytes: &[u8]) -> u8
     register
 }
 
-// The lower of two places: a part of a short frame ends where the frame does.
-fn least(a: usize, b: usize) -> usize
-    ensures { λ r. ⌜ r ≡ min a b ⌝ }
-{
-    if a < b { a } else { b }
-}
-
 // The checksum of a frame whose join flags and scale factors take `side_bits` bits: bytes 1 and 2, then those bits from byte 4 on.
-// Of a frame that ends before them it covers what is there.
+// Of a frame that ends before them it covers what is there: a part ends where the frame does.
 pub fn checksum(frame: &[u8], side_bits: usize) -> u8
     ensures { λ r. ⌜ r ≡ checksum (now (frame .entry)) «side_bits» ⌝ }
 {

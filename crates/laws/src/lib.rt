@@ -1,6 +1,6 @@
 // Laws on integers, sums, lists and bit fields, in specs/ and proofs/, and small functions on integers. Nothing here knows of audio.
 ghost use mathlib.Core.Path.{_≡_};
-ghost use Prim.Native.Nat.{_^_, _<_};
+ghost use Prim.Native.Nat.{_^_, _<_, _≤_, min};
 ghost use lib.IntN.{_+ℤ_, _*ℤ_};
 ghost use mir.Syntax.{w16, w32, w64};
 ghost use mir.Val.{SFits};
@@ -12,6 +12,20 @@ pub fn power_of_two(exponent: u32) -> u32
     ensures { λ r. ⌜ r ≡ 2 ^ exponent ⌝ }
 {
     1 << exponent
+}
+
+// The lesser of two numbers.
+pub fn least(a: usize, b: usize) -> usize
+    ensures { λ r. ⌜ r ≡ min a b ⌝ }
+{
+    if a < b { a } else { b }
+}
+
+// A byte as a 32-bit number; its bound is what the callers' sums rest on.
+pub fn wide(x: u8) -> u32
+    ensures { λ r. ⌜ (r ≡ x) × (r ≤ 255) ⌝ }
+{
+    x as u32
 }
 
 // x at the wider type.

@@ -14,7 +14,7 @@ use Rattle.sbc_parameters.specs.Sizes.{frameLength, frameSamples}
 use Rattle.sbc_parameters.proofs.Accepted.{frame-samples-range}
 use Rattle.sbc_frame.specs.Layout.{unpack}
 use Rattle.sbc.specs.Answers.{progressOf, addProgress}
-use Rattle.sbc.specs.Decode.{withParameters, withSynthesis, withSkip, look, dropped, nextDecoder, nextOutput, unchanged, play, decodeNext, Turns, afterStep, decodeTurns, decodeAll, answerOf, decode, places, reachAfter, reachTurns, reach}
+use Rattle.sbc.specs.Decode.{withParameters, withSynthesis, withSkip, look, dropped, nextDecoder, nextOutput, unchanged, play, Turns, afterStep, decodeTurns, decodeAll, answerOf, decode, places, reachAfter, reachTurns, reach}
 use Rattle.sbc.specs.declared.Progress.{Progress}
 use Rattle.sbc.specs.declared.SbcDecoder.{SbcDecoder}
 use Rattle.sbc.proofs.Answering.{given-progress}

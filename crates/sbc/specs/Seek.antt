@@ -1,7 +1,7 @@
 -- Seek and reset: from the decoder and the position to the answer and the next decoder. Positions and the skip count samples of one channel.
 -- From document 01, "Calls" and "Given back".
 use Prim.Native.Nat.{ℕ, _^_}
-use mathlib.Core.Bool.{Bool, false, _&&_}
+use mathlib.Core.Bool.{false, _&&_}
 use lib.Dec.{eqb, ltb}
 use Rattle.laws.specs.Choice.{if_then_else_}
 use Rattle.laws.specs.Answers.{Told, gives, refuses}

@@ -12,7 +12,6 @@ use Rattle.sbc.specs.declared.SbcEncoder.{SbcEncoder}
 use Rattle.sbc.specs.declared.EncodeResult.{EncodeResult}
 use Rattle.sbc.specs.declared.Created.{Created}
 use Rattle.sbc_parameters.specs.Parameters.{toldValidated}
-use Rattle.sbc_parameters.specs.declared.Validated.{Validated}
 use Rattle.sbc.specs.declared.Front.{Front}
 use Rattle.sbc.specs.declared.Front.the-variants.{Cut, Bad, Whole}
 use Rattle.sbc.specs.declared.Outcome.{Outcome}

@@ -1,5 +1,6 @@
 // The SBC and mSBC encoder and decoder: their states, what their calls give back, and the decoder's calls. The definitions of all calls stand
 // in specs/.
+use laws::least;
 use sbc_filterbank::Synthesis;
 use sbc_frame::decode_frame;
 use sbc_frame::encode_frame;
@@ -10,7 +11,7 @@ use sbc_parameters::Validated;
 ghost use mathlib.Core.Path.{_≡_};
 ghost use mathlib.Core.Bool.{true};
 ghost use mathlib.Core.List.{_++_};
-ghost use Prim.Native.Nat.{_-_, _*_, _≤_, min};
+ghost use Prim.Native.Nat.{_-_, _*_, _≤_};
 ghost use lib.Dec.{eqb};
 ghost use lib.ListN.{length, take, drop};
 ghost use Rattle.laws.specs.Answers.{gives};
@@ -20,7 +21,7 @@ ghost use Rattle.sbc_parameters.specs.Seek.{seekFrame};
 ghost use Rattle.sbc_parameters.specs.Sizes.{frameLength, frameSamples};
 ghost use Rattle.sbc_frame.specs.Layout.{unpack};
 ghost use Rattle.sbc.specs.Decode.{cleared, play, newDecoder, finish, whole, lookBehind, look, startHistories, refused, shortStep, turnAt, decodeNext, answerOf, decode};
-ghost use Rattle.sbc.specs.Answers.{toldCoded, progressOf};
+ghost use Rattle.sbc.specs.Answers.{toldCoded, progressOf, isStalled};
 ghost use Rattle.sbc.specs.Told.{toldFront, toldOutcome, toldTurn, toldDecoded, toldCreated, toldEncoded, encoderWith};
 ghost use Rattle.sbc.specs.Encode.{encoderOf, newEncoder, resetEncoder, encoderAfter, encodedFrames, packAll, encode};
 ghost use Rattle.sbc.specs.Seek.{toldSought, reset, resumed, seekFirst, seekFrom, seek};
@@ -32,6 +33,21 @@ const SYNTHESIS_HISTORY_BLOCKS: u64 = 9;
 pub struct Progress {
     pub consumed: usize,
     pub produced: usize,
+}
+
+impl Progress {
+    pub fn new(consumed: usize, produced: usize) -> Progress
+        ensures { λ r. ⌜ r ≡ progressOf consumed produced ⌝ }
+    {
+        Progress { consumed, produced }
+    }
+
+    // Whether nothing was consumed or produced.
+    pub fn is_stalled(self) -> bool
+        ensures { λ r. ⌜ r ≡ isStalled self ⌝ }
+    {
+        self.consumed == 0 && self.produced == 0
+    }
 }
 
 // What a decode or encode call gives back.
@@ -517,13 +533,6 @@ fn same_subbands(before: SbcParameters, parameters: SbcParameters) -> bool
     ensures { λ r. ⌜ r ≡ eqb (before .subbands) (parameters .subbands) ⌝ }
 {
     before.subbands == parameters.subbands
-}
-
-// The lesser of two numbers.
-fn least(a: usize, b: usize) -> usize
-    ensures { λ r. ⌜ r ≡ min a b ⌝ }
-{
-    if a < b { a } else { b }
 }
 
 // What a refused frame makes the call give back: the frames accepted before it count.

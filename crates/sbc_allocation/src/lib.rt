@@ -1,4 +1,5 @@
 // The bit allocation of SBC: what each subband needs, and how a bitpool is shared by need.
+use laws::wide;
 use sbc_parameters::SbcAllocation;
 use sbc_parameters::SbcChannelMode;
 use sbc_parameters::SbcParameters;
@@ -266,13 +267,6 @@ fn round_bits(needs: &[u32], level: u32, left: u32) -> [u8; 16]
         i += 1;
     }
     bits
-}
-
-// A byte as a 32-bit number; its bound is what the callers' sums rest on.
-fn wide(x: u8) -> u32
-    ensures { λ r. ⌜ (r ≡ x) × (r ≤ 255) ⌝ }
-{
-    x as u32
 }
 
 // The sum of a group's bits.

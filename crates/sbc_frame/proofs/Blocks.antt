@@ -1,5 +1,4 @@
--- For code that goes block by block and keeps a running bit position: one block more at the end of an analysis and of a synthesis, and each
--- field's position from that of the field before it.
+-- For code that goes block by block: one block more at the end of an analysis and of a synthesis, and what a call for one channel asks.
 -- Assumes nothing.
 use Prim.Native.Nat.{ℕ, zero, suc, _+_, _*_, _≤_, _<_}
 use mathlib.Core.Path.{_≡_, refl, sym, ap, _∙_, subst}
@@ -16,16 +15,13 @@ use Rattle.laws.specs.Lists.{total}
 use Rattle.laws.proofs.Lists.{length-build}
 use Rattle.sbc_parameters.specs.declared.SbcParameters.{SbcParameters}
 use Rattle.sbc_parameters.specs.Parameters.{channels, accepted}
-use Rattle.sbc_parameters.specs.Sizes.{joinCount, sideBits, samplesPerChannel, frameSamples}
+use Rattle.sbc_parameters.specs.Sizes.{samplesPerChannel, frameSamples}
 use Rattle.sbc_parameters.proofs.Accepted.{subbands-cases, ranges, channels-range}
 use Rattle.sbc_filterbank.specs.Subbands.{Bands}
 use Rattle.sbc_filterbank.specs.Analysis.{shifted, analysisOutputs}
 use Rattle.sbc_filterbank.specs.Synthesis.{synthesisOutputs}
 use Rattle.sbc_filterbank.specs.declared.synthesis.Synthesis.{Synthesis}
-use Rattle.sbc_frame.specs.Fields.{widthAt, channelWidth}
-use Rattle.sbc_frame.specs.Layout.{factorPosition, valuePosition}
 use Rattle.sbc_frame.specs.Channels.{analyzeBlocks, analysisAfter, synthesized, synthesize, synthesizeBlocks, synthesisAfter}
-use Rattle.sbc_frame.proofs.Positions.{side-bits}
 
 module _ (S : ℕ) where
   -- ---- analysis
@@ -92,53 +88,10 @@ module _ (S : ℕ) where
       length-append (synthesize S h s) (synthesizeBlocks S (synthesized S h s) ss)
       ∙ omega (arith, length-synthesize h s, length-synthesizeBlocks (synthesized S h s) ss, suc-mul (length ss) S)
 
--- ---- positions
 -- a sum with one term more
 pub total-next : (n : ℕ) (w : ℕ → ℕ) → total (n + 1) w ≡ total n w + w n
 unfolding total
 total-next n w = rw add-one
-
-module _ (p : SbcParameters) where
-  -- the first scale factor stands behind the join flags
-  pub factor-first : factorPosition p 0 0 ≡ 32 + joinCount p
-  unfolding factorPosition
-  factor-first = omega arith
-
-  -- each takes four bits
-  pub factor-next : (c s : ℕ) → factorPosition p c (s + 1) ≡ factorPosition p c s + 4
-  unfolding factorPosition
-  factor-next c s = omega arith
-
-  -- the next channel's stand behind a channel's last
-  pub factor-channel : (c : ℕ) → factorPosition p (c + 1) 0 ≡ factorPosition p c (p .subbands)
-  unfolding factorPosition
-  factor-channel c = omega arith
-
-  -- and the values behind all of them
-  pub factor-end : factorPosition p (channels p) 0 ≡ 32 + sideBits p
-  unfolding factorPosition
-  factor-end = omega (arith, side-bits p)
-
-  module _ (factors : List (List ℕ)) where
-    -- the first value stands behind the side bits
-    pub value-first : valuePosition p factors 0 0 0 ≡ 32 + sideBits p
-    unfolding valuePosition total
-    value-first = omega arith
-
-    -- each takes its width
-    pub value-next : (b c s : ℕ) → valuePosition p factors b c (s + 1) ≡ valuePosition p factors b c s + widthAt p factors c s
-    unfolding valuePosition
-    value-next b c s = omega (arith, total-next s (widthAt p factors c))
-
-    -- the next channel's stand behind a channel's last
-    pub value-channel : (b c : ℕ) → valuePosition p factors b (c + 1) 0 ≡ valuePosition p factors b c (p .subbands)
-    unfolding valuePosition channelWidth total
-    value-channel b c = omega (arith, total-next c (channelWidth p factors))
-
-    -- and the next block's behind the last channel
-    pub value-block : (b : ℕ) → valuePosition p factors (b + 1) 0 0 ≡ valuePosition p factors b (channels p) 0
-    unfolding valuePosition total
-    value-block b = omega arith
 
 -- ---- calls for one channel
 -- what a channel's call asks of the parameters and the room

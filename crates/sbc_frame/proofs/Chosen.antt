@@ -9,7 +9,7 @@ use native.Mathlib.Omega.{arith}
 use lib.Dec.{lit≤, eqb, ltb}
 use borrow.Author.Tests.{ltb-true, ltb-false}
 use lib.IntN.{ℤ, pos, natAbs}
-use lib.ListN.{length, getD, replicate, getD-replicate, List·getD-eq-default}
+use lib.ListN.{getD, replicate, getD-replicate, List·getD-eq-default}
 use Rattle.laws.specs.Choice.{if_then_else_}
 use Rattle.laws.specs.Lists.{greatest}
 use Rattle.laws.specs.Bits.{digit}

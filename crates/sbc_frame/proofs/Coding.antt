@@ -103,16 +103,6 @@ pub length-decoded : (p : SbcParameters) (histories : List Synthesis) (f : Field
 unfolding decodeFields interleave
 length-decoded p histories f = length-build (frameSamples p) _
 
--- there are two analysis histories
-pub length-analysisHistories : (p : SbcParameters) (histories : List (List ℤ)) (pcm : List ℤ) → length (analysisHistories p histories pcm) ≡ 2
-unfolding analysisHistories
-length-analysisHistories p histories pcm = length-build 2 _
-
--- and two synthesis histories
-pub length-synthesisHistories : (p : SbcParameters) (histories : List Synthesis) (f : Fields) → length (synthesisHistories p histories f) ≡ 2
-unfolding synthesisHistories
-length-synthesisHistories p histories f = length-build 2 _
-
 -- ---- without joint stereo
 module _ (p : SbcParameters) (plain : isJoint (p .«channel_mode») ≡ false) (samples : ℕ → List (List ℤ)) where
   -- no subband is joined

@@ -22,16 +22,16 @@ use Rattle.sbc_parameters.specs.Parameters.{channels, accepted}
 use Rattle.sbc_parameters.specs.Sizes.{joinCount, sideBits, frameLength, samplesPerChannel}
 use Rattle.sbc_parameters.specs.Header.{header}
 use Rattle.sbc_parameters.proofs.Accepted.{channels-range, ranges}
-use Rattle.sbc_allocation.specs.Allocate.{allocate, allocationTable}
+use Rattle.sbc_allocation.specs.Allocate.{allocationTable}
 use Rattle.sbc_quantizer.specs.Quantizing.{quantize}
-use Rattle.sbc_frame.specs.Fields.{Fields, joinAt, factorAt, valueAt, widthAt}
+use Rattle.sbc_frame.specs.Fields.{Fields, factorAt, valueAt, widthAt}
 use Rattle.sbc_frame.specs.Layout.{flagBits, channelFactorBits, factorBits, channelValueBits, blockValueBits, valueBits, bodyBits, body, pack}
 use Rattle.sbc_frame.specs.Channels.{channelPcm, analyzeBlocks, analysisAfter}
 use Rattle.sbc_frame.specs.Encoding.{sampleAt, channelSamples, factorOf, isJoined, codedAt, codedFactors, codedValues, coded, analysisHistories}
-use Rattle.sbc_frame.specs.Parts.{sampleIn, entry}
+use Rattle.sbc_frame.specs.Parts.{entry}
 use Rattle.sbc_frame.specs.Pieces.{pcmIn, SamplesIn, ChannelsIn, CodingIn, rowBits, blockBitsOf, valueBitsOf, filled, codingBits, codingBytes}
 use Rattle.sbc_frame.proofs.Widths.{Enough, allocate-agree, table-width, width-none, width-absent}
-use Rattle.sbc_frame.proofs.Received.{joins-le, row-sizes}
+use Rattle.sbc_frame.proofs.Received.{row-sizes}
 
 -- ---- lists end to end
 collect-ext : (n : ℕ) (f g : ℕ → List Bool) → ((i : ℕ) → i < n → f i ≡ g i) → collect n f ≡ collect n g

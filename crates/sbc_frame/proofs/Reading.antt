@@ -1,26 +1,23 @@
 -- What is read from a frame: it is well formed whatever the bytes are, and it is what was written where the frame was written.
 -- Assumes nothing.
-use Prim.Native.Nat.{ℕ, _+_, _*_, _^_, _<_}
+use Prim.Native.Nat.{ℕ, _+_, _<_}
 use mathlib.Core.Path.{_≡_, ap, _∙_}
-use mathlib.Core.Bool.{Bool, true, false}
-use mathlib.Core.List.{List, [], _∷_, _++_}
+use mathlib.Core.Bool.{true, false}
+use mathlib.Core.List.{List, []}
 use native.Mathlib.Omega.{arith}
 use lib.Dec.{lit<}
-use lib.ListN.{length, getD, take}
-use lib.Seq.{take-at}
+use lib.ListN.{length, getD}
 use Rattle.laws.specs.Lists.{build}
-use Rattle.laws.specs.Bits.{odd, digit, bitsOf, numberOf, bitsOfBytes}
-use Rattle.laws.proofs.Lists.{length-build, getD-build, build-all, build-is, At}
-use Rattle.laws.proofs.Bits.{odd-digit, length-bitsOf, number-of-bits}
+use Rattle.laws.specs.Bits.{odd}
+use Rattle.laws.proofs.Lists.{length-build, getD-build, build-all, build-is}
 use Rattle.bits.specs.Fields.{numberAt}
 use Rattle.bits.proofs.Windows.{number-at-lt, read-number, read-flag}
 use Rattle.sbc_parameters.specs.declared.SbcParameters.{SbcParameters}
 use Rattle.sbc_parameters.specs.Parameters.{channels, accepted}
-use Rattle.sbc_parameters.specs.Sizes.{joinCount, frameLength}
+use Rattle.sbc_parameters.specs.Sizes.{joinCount}
 use Rattle.sbc_frame.specs.Fields.{Fields, joinAt, factorAt, valueAt, widthAt, WellFormed}
 use Rattle.sbc_frame.specs.Layout.{pack, factorPosition, valuePosition, readJoin, readFactors, readValues, unpack}
 use Rattle.sbc_frame.proofs.Widths.{Enough}
-use Rattle.sbc_frame.proofs.Written.{cut-pack}
 use Rattle.sbc_frame.proofs.Placed.{flag-at, factor-at, value-at}
 
 -- ---- any frame
@@ -118,7 +115,3 @@ module _ (p : SbcParameters) (f : Fields) (a : accepted p ≡ true) (w : WellFor
       let factors = factors-back in
       let values = ap (readValues p (pack p f)) factors ∙ values-back in
       λ i. record { join = join-back i; factors = factors i; values = values i }
-
-  -- also from a frame that is cut out of a stream
-  pub unpack-cut : (rest : List ℕ) → unpack p (take (frameLength p) (pack p f ++ rest)) ≡ f
-  unpack-cut rest = ap (unpack p) (cut-pack p f rest) ∙ unpack-pack

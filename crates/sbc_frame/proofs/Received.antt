@@ -1,23 +1,22 @@
 -- What the code reads of a received frame, in rows of eight and by running positions, is what `unpack` reads, and it is small.
 -- Assumes nothing.
-use Prim.Native.Nat.{ℕ, zero, suc, _+_, _-_, _*_, _%_, _^_, _≤_, _<_, min}
-use mathlib.Core.Path.{_≡_, refl, sym, ap, ap₂, _∙_, subst}
-use mathlib.Core.Logic.{_⊎_, inl, inr}
+use Prim.Native.Nat.{ℕ, zero, suc, _+_, _-_, _*_, _%_, _^_, _≤_, _<_}
+use mathlib.Core.Path.{_≡_, refl, sym, ap, ap₂, _∙_}
 use mathlib.Core.Bool.{Bool, true, false, false≢true}
 use mathlib.Core.List.{List, [], _∷_, _++_}
-use native.Mathlib.Nat.{le-of-suc-le-suc, eq-or-lt-of-le, suc-mul, mul-le-mul-right}
+use native.Mathlib.Nat.{suc-mul, mul-le-mul-right}
 use native.Mathlib.Omega.{arith}
 use lib.Dec.{eqb, ltb}
 use lib.IntN.{ℤ, natAbs, _+ℤ_, _-ℤ_}
-use lib.ListN.{length, getD, replicate, length-append, length-replicate, List·getD-eq-default}
-use borrow.Author.Tests.{ltb-true, ltb-false, lt-ltb, le-ltb, eq-eqb, ne-eqb}
+use lib.ListN.{length, getD, replicate, length-append, length-replicate}
+use borrow.Author.Tests.{ltb-true, ltb-false, lt-ltb, le-ltb}
 use Rattle.laws.specs.Choice.{if_then_else_}
 use Rattle.laws.specs.Lists.{build, total}
 use Rattle.laws.specs.Bits.{odd, bitsOfBytes, numberOf}
 use Rattle.laws.proofs.Abs.{natAbs-+, natAbs--}
 use Rattle.laws.proofs.Bits.{length-bitsOfBytes, bits-of-append}
 use Rattle.laws.proofs.Cases.{by-test}
-use Rattle.laws.proofs.Lists.{length-build, getD-build, getD-build-out, build-ext, total-ext}
+use Rattle.laws.proofs.Lists.{length-build, getD-build, getD-build-out, total-ext}
 use Rattle.laws.proofs.Parts.{part-front}
 use Rattle.bits.specs.Fields.{numberAt}
 use Rattle.bits.proofs.Windows.{number-at-lt}
@@ -27,14 +26,11 @@ use Rattle.sbc_parameters.specs.declared.SbcParameters.{SbcParameters}
 use Rattle.sbc_parameters.specs.Parameters.{channelsOf, channels, isJoint, accepted}
 use Rattle.sbc_parameters.specs.Sizes.{joinCount, sideBits, blockBits, frameLength}
 use Rattle.sbc_parameters.proofs.Accepted.{channels-range, ranges, frame-length-range}
-use Rattle.sbc_allocation.specs.Need.{need}
-use Rattle.sbc_allocation.specs.Share.{share}
-use Rattle.sbc_allocation.specs.Allocate.{channelNeeds, rowsTogether, allocateBy, allocate, allocationTable}
-use Rattle.sbc_allocation.proofs.Rows.{length-allocate, length-row, table-at, table-16}
-use Rattle.sbc_quantizer.specs.Quantizing.{reconstruct}
+use Rattle.sbc_allocation.specs.Allocate.{allocate, allocationTable}
+use Rattle.sbc_allocation.proofs.Rows.{table-16}
 use Rattle.sbc_quantizer.proofs.Steps.{reconstruct-bound}
-use Rattle.sbc_frame.specs.Fields.{Fields, joinAt, factorAt, valueAt, widthAt, channelWidth}
-use Rattle.sbc_frame.specs.Layout.{factorPosition, valuePosition, readJoin, readFactors, readValues, unpack}
+use Rattle.sbc_frame.specs.Fields.{joinAt, factorAt, valueAt, widthAt, channelWidth}
+use Rattle.sbc_frame.specs.Layout.{factorPosition, valuePosition, readJoin, readFactors, unpack}
 use Rattle.sbc_frame.specs.Decoding.{reconstructedAt, decodedAt}
 use Rattle.sbc_frame.specs.Parts.{below, rowAt, flagRow, leftFactors, rightFactors, valueOf, sampleIn, Small, entry, ChannelIn, FrameIn}
 use Rattle.sbc_frame.proofs.Widths.{Enough, rows-enough, block-width, allocate-agree, table-width, row-width, rows-width}

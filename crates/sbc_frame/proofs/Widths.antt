@@ -23,15 +23,9 @@ use Rattle.sbc_parameters.proofs.Accepted.{channels-range, ranges}
 use Rattle.sbc_allocation.specs.Need.{need}
 use Rattle.sbc_allocation.specs.Allocate.{channelNeeds, allocateBy, allocate, allocationTable}
 use Rattle.sbc_allocation.specs.Shares.{_∈_, Place, placesOf, groupsBy, groups, entryAt}
-use Rattle.sbc_allocation.proofs.Rows.{allocate-16, length-allocate, length-row, table-at}
+use Rattle.sbc_allocation.proofs.Rows.{length-allocate, length-row, table-at}
 use Rattle.sbc_allocation.proofs.Groups.{sum-append, shares-fair}
 use Rattle.sbc_frame.specs.Fields.{widthAt, channelWidth}
-
--- ---- any parameters and scale factors
--- a value has at most 16 bits
-pub width-le : (p : SbcParameters) (factors : List (List ℕ)) (c s : ℕ) → widthAt p factors c s ≤ 16
-unfolding widthAt
-width-le p factors c s = allocate-16 p factors c s
 
 -- ---- the places of a group, by index
 sum-places : (table : List (List ℕ)) (S c : ℕ) → sum (map (entryAt table) (placesOf S c)) ≡ total S (λ s. getD (getD table c []) s 0)

@@ -13,7 +13,6 @@ use Rattle.laws.specs.Bits.{bitsOf, bitsOfBytes}
 use Rattle.laws.proofs.Parts.{put-tail}
 use Rattle.laws.proofs.Bits.{length-bytesOf}
 use Rattle.crc8.specs.Checksum.{covered, checksum}
-use Rattle.crc8.proofs.Registers.{checksum-lt}
 use Rattle.sbc_parameters.specs.declared.SbcParameters.{SbcParameters}
 use Rattle.sbc_parameters.specs.Parameters.{accepted}
 use Rattle.sbc_parameters.specs.Sizes.{sideBits, frameLength}
@@ -22,8 +21,6 @@ use Rattle.sbc_parameters.proofs.Parsing.{length-header, parse-header}
 use Rattle.sbc_frame.specs.Fields.{Fields}
 use Rattle.sbc_frame.specs.Layout.{bodyBits, body, pack}
 use Rattle.sbc_frame.specs.Pieces.{bitsIn}
-use Rattle.laws.proofs.Bits.{Bytes, bytes-cons, bytes-append, bytes-of}
-use Rattle.sbc_parameters.proofs.Parsing.{bytes-header}
 
 -- ---- three bytes, one byte, and the rest
 four : (h : List ℕ) (x : ℕ) (rest : List ℕ) → length h ≡ 3 → drop 4 (h ++ (x ∷ rest)) ≡ rest
@@ -119,11 +116,3 @@ module _ (p : SbcParameters) (f : Fields) where
         let more : List ℕ = check ∷ body p f in
         parse-header p a ((header p ++ more) ++ rest)
         (ap (take 3) (append-assoc (header p) more rest) ∙ take-at (header p) (more ++ rest) 3 (length-header p))
-
-    -- what is written is bytes
-    pub pack-bytes : Bytes (pack p f)
-    unfolding pack body
-    pack-bytes =
-        bytes-append (header p) (check ∷ body p f) (bytes-header p a)
-        (bytes-cons check (body p f) (checksum-lt (header p ++ (0 ∷ body p f)) (sideBits p))
-        (bytes-of (frameLength p - 4) (bodyBits p f ++ spareBits)))

@@ -164,7 +164,8 @@ fn write_frame(
         left,
         right,
     );
-    frame[3] = crc8::checksum(frame, parameters.side_bits());
+    let side_bits = parameters.side_bits();
+    frame[3] = crc8::checksum(frame, side_bits);
 }
 
 // The second channel's samples: zeros where there is one channel, whose history then stays as it is.

@@ -1,4 +1,5 @@
 // A frame's bytes to the subband samples of its channels, in an array of 128 for each channel, eight places a block.
+use laws::wide;
 use sbc_allocation::allocate;
 use sbc_parameters::SbcParameters;
 use sbc_quantizer::Dequantizer;
@@ -41,13 +42,6 @@ fn padded(frame: &[u8]) -> [u8; 528]
         bytes[i] = frame[i];
     }
     bytes
-}
-
-// A byte as a 32-bit number; its bound is what the callers' sums rest on.
-fn wide(x: u8) -> u32
-    ensures { λ r. ⌜ (r ≡ x) × (r ≤ 255) ⌝ }
-{
-    x as u32
 }
 
 // Four bytes as one number, the high byte first.

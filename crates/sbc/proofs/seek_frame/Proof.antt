@@ -1,6 +1,6 @@
 -- `seek_frame` meets its contract: accepted parameters have blocks and subbands to divide by.
 -- Assumes nothing.
-use Prim.Native.Nat.{ℕ, _-_, _/_, _≤_, _<_}
+use Prim.Native.Nat.{_-_, _/_}
 use mathlib.Core.Path.{_≡_, sym, ap, _∙_}
 use native.Mathlib.Nat.{zero-div}
 use native.Mathlib.Omega.{arith}

@@ -2,7 +2,6 @@
 -- Assumes nothing.
 use mathlib.Core.Path.{refl}
 use Rattle.sbc.specs.Decode.{withFinishing, finish}
-use borrow.Author.Needs.{needs}
 use Rattle.sbc.proofs.SbcDecoder.finish.Statement.{statement}
 use Rattle.sbc.proofs.SbcDecoder.finish.Tie as tie
 

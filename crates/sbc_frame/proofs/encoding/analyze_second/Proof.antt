@@ -1,6 +1,5 @@
 -- `sbc_frame::encoding::analyze_second` meets its contract.
 -- Assumes nothing.
-use Prim.Native.Nat.{ℕ}
 use mathlib.Core.Path.{refl}
 use native.Mathlib.Omega.{arith}
 use Rattle.sbc_frame.proofs.encoding.analyze_second.Statement.{statement}

@@ -1,12 +1,9 @@
 -- `sbc_frame::encoding::encode_frame` meets its contract: what is coded of the samples (`CodingIn`) is written as the frame's bytes.
 -- Assumes nothing.
-use Prim.Native.Nat.{ℕ, _*_, _≤_}
-use mathlib.Core.Path.{_≡_, refl, ap, _∙_}
-use mathlib.Core.List.{List, [], _∷_}
+use mathlib.Core.Path.{_∙_}
+use mathlib.Core.List.{[], _∷_}
 use native.Mathlib.Omega.{arith}
-use lib.IntN.{ℤ}
-use lib.ListN.{length}
-use Rattle.sbc_parameters.specs.Parameters.{channels, accepted}
+use Rattle.sbc_parameters.specs.Parameters.{channels}
 use Rattle.sbc_parameters.proofs.Accepted.{channels-range}
 use Rattle.sbc_frame.specs.Encoding.{channelSamples, encodeFields}
 use Rattle.sbc_frame.proofs.Blocks.{asked}

@@ -66,7 +66,7 @@ module _ (c : tie.After-checksum) where
 
   check : c .checksum .result ≡ checksum (header (p k) ++ (0 ∷ rest there)) (sideBits (p k))
   check =
-      c .checksum .ensures ∙ ap₂ checksum (came-back there) (c .before .side-bits .ensures)
+      c .checksum .ensures ∙ ap₂ checksum (came-back there) (c .before .before .side-bits .ensures)
       ∙ blind (header (p k)) (getD (frame k) 3 0) 0 (rest there) (sideBits (p k)) (length-header (p k))
 
   whole : set (back there) 3 (c .checksum .result)

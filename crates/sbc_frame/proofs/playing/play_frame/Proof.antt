@@ -1,14 +1,14 @@
 -- `sbc_frame::playing::play_frame` meets its contract: one channel or two, each put into its places, are the frame.
 -- Assumes nothing.
-use Prim.Native.Nat.{ℕ, _*_, _≤_, _<_}
-use mathlib.Core.Path.{_≡_, refl, sym, subst}
+use Prim.Native.Nat.{ℕ, _≤_}
+use mathlib.Core.Path.{_≡_, sym, subst}
 use mathlib.Core.List.{[]}
 use native.Mathlib.Omega.{arith}
 use lib.ListN.{length}
 use borrow.Author.Needs.{needs}
-use Rattle.sbc_parameters.specs.Parameters.{accepted, channels}
+use Rattle.sbc_parameters.specs.Parameters.{channels}
 use Rattle.sbc_parameters.specs.Sizes.{frameSamples}
-use Rattle.sbc_parameters.proofs.Accepted.{subbands-cases, ranges, channels-range}
+use Rattle.sbc_parameters.proofs.Accepted.{channels-range}
 use Rattle.sbc_filterbank.specs.declared.synthesis.Synthesis.{Synthesis}
 use Rattle.sbc_frame.proofs.Blocks.{asked}
 use Rattle.sbc_frame.proofs.Played.{one-played, two-played}

@@ -1,10 +1,6 @@
 -- `sbc_frame::subbands::read_frame` meets its contract: what it has before it reads the values is `Got`, and the laws of Received do the rest.
 -- Assumes nothing.
-use Prim.Native.Nat.{_≤_}
-use mathlib.Core.Path.{_≡_, ap}
 use native.Mathlib.Omega.{arith}
-use lib.ListN.{length}
-use Rattle.sbc_parameters.specs.Sizes.{sideBits, frameLength}
 use Rattle.sbc_parameters.proofs.Accepted.{ranges, frame-length-range}
 use Rattle.sbc_frame.proofs.Positions.{frame-room}
 use Rattle.sbc_frame.proofs.Received.{Got, left-asks, right-asks, left-small, right-small, frame-in}

@@ -1,10 +1,9 @@
 -- `sbc_frame::subbands::read_side` meets its contract.
 -- Assumes nothing.
-use Prim.Native.Nat.{ℕ, _+_, _*_, _-_, _≤_}
-use mathlib.Core.Path.{_≡_, ap, ap₂, _∙_}
+use Prim.Native.Nat.{ℕ, _+_, _*_, _-_}
+use mathlib.Core.Path.{ap, ap₂, _∙_}
 use native.Mathlib.Omega.{arith}
 use Rattle.sbc_parameters.specs.Parameters.{channels}
-use Rattle.sbc_parameters.specs.Sizes.{joinCount}
 use Rattle.sbc_frame.specs.Parts.{rowAt}
 use Rattle.sbc_frame.proofs.Received.{row-sizes}
 use borrow.Author.Needs.{needs}
