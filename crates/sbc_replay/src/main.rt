@@ -1,0 +1,513 @@
+// Runs a list of calls of the codec from standard input and writes each answer, for a test beside another codec. All numbers are little endian.
+//
+// A request is one byte and its operands, an answer an error byte, 0 for none, and the results; they are zeros on a refusal.
+//   P  u16 n, n bytes: parse. The nine bytes of a set: u32 rate, mode, allocation, blocks, subbands, bitpool
+//   V  a set: validate
+//   N  a set: a new encoder, the old one kept on a refusal. The first has the HIGH_QUALITY set
+//   E  u32 samples, u32 bytes, the samples, the output at entry: encode. u64 consumed, u64 produced, the output
+//   D  u32 bytes, u32 samples, the bytes, the output at entry: decode. The same
+//   S  u64 position: seek. u64 offset, u32 skip
+//   F, R, r: finish, reset of the decoder, reset of the encoder
+//   Q  the decoder's set: 1 and it, or 0 and zeros
+//   A  a set, 16 scale factors: allocate. 16 bytes
+// The program ends at the end of its input, at any other byte, at a record that is cut, and at a buffer of more than 65,536 bytes or samples.
+mod numbers;
+
+use libc::STDIN_FILENO;
+use libc::STDOUT_FILENO;
+use numbers::long_bytes;
+use numbers::long_number;
+use numbers::number;
+use numbers::number_bytes;
+use sbc::Coded;
+use sbc::LastParameters;
+use sbc::SbcDecoder;
+use sbc::SbcEncoder;
+use sbc::SeekOutcome;
+use sbc_allocation::allocate;
+use sbc_parameters::Parsed;
+use sbc_parameters::SbcAllocation;
+use sbc_parameters::SbcChannelMode;
+use sbc_parameters::SbcParameters;
+use sbc_parameters::Validated;
+ghost use mathlib.Core.Path.{_≡_};
+ghost use Prim.Native.Nat.{_*_};
+ghost use lib.ListN.{length};
+
+const NO_SET: [u8; 9] = [0; 9];
+
+// The two codecs, and whether the program goes on.
+struct Replay {
+    decoder: SbcDecoder,
+    encoder: SbcEncoder,
+    going: bool,
+}
+
+// Fills the buffer from standard input, and answers whether there was enough.
+fn fill(buffer: &mut [u8]) -> bool {
+    io::read_full(STDIN_FILENO, buffer) == buffer.len()
+}
+
+fn fill_both(first: &mut [u8], second: &mut [u8]) -> bool {
+    if !fill(first) {
+        return false;
+    }
+    fill(second)
+}
+
+fn answer(bytes: &[u8]) {
+    io::write_all(STDOUT_FILENO, bytes);
+}
+
+fn answer_set(error: u8, set: [u8; 9]) {
+    answer(
+        &[
+            error,
+            set[0],
+            set[1],
+            set[2],
+            set[3],
+            set[4],
+            set[5],
+            set[6],
+            set[7],
+            set[8],
+        ],
+    );
+}
+
+fn answer_progress(error: u8, consumed: u64, produced: u64) {
+    let c = long_bytes(consumed);
+    let p = long_bytes(produced);
+    answer(
+        &[
+            error,
+            c[0],
+            c[1],
+            c[2],
+            c[3],
+            c[4],
+            c[5],
+            c[6],
+            c[7],
+            p[0],
+            p[1],
+            p[2],
+            p[3],
+            p[4],
+            p[5],
+            p[6],
+            p[7],
+        ],
+    );
+}
+
+fn answer_coded(coded: Coded) {
+    match coded {
+        Coded::Done(progress) => {
+            answer_progress(0, progress.consumed as u64, progress.produced as u64);
+        }
+        Coded::Refused(error) => {
+            answer_progress(error.number(), 0, 0);
+        }
+    }
+}
+
+fn answer_encoded(coded: Coded, bytes: &[u8]) {
+    answer_coded(coded);
+    answer(bytes);
+}
+
+fn answer_decoded(coded: Coded, samples: &[i16], raw: &mut [u8])
+    requires { ⌜ length (now raw) ≡ 2 * length (now samples) ⌝ }
+{
+    pcm::write(samples, raw);
+    answer_encoded(coded, raw);
+}
+
+fn answer_seek(error: u8, offset: u64, skip: u32) {
+    let o = long_bytes(offset);
+    let s = number_bytes(skip);
+    answer(
+        &[
+            error,
+            o[0],
+            o[1],
+            o[2],
+            o[3],
+            o[4],
+            o[5],
+            o[6],
+            o[7],
+            s[0],
+            s[1],
+            s[2],
+            s[3],
+        ],
+    );
+}
+
+fn answer_sought(outcome: SeekOutcome) {
+    match outcome {
+        SeekOutcome::At(request) => {
+            answer_seek(0, request.byte_offset, request.skip_frames);
+        }
+        SeekOutcome::Refused(error) => {
+            answer_seek(error.number(), 0, 0);
+        }
+    }
+}
+
+// The set of nine bytes; a mode or an allocation past the last counts as the last.
+fn set_of(bytes: [u8; 9]) -> SbcParameters {
+    SbcParameters {
+        sample_rate: number(bytes[0], bytes[1], bytes[2], bytes[3]),
+        channel_mode: SbcChannelMode::from_number(bytes[4]),
+        allocation: SbcAllocation::from_number(bytes[5]),
+        blocks: bytes[6],
+        subbands: bytes[7],
+        bitpool: bytes[8],
+    }
+}
+
+fn bytes_of(set: SbcParameters) -> [u8; 9] {
+    let rate = number_bytes(set.sample_rate);
+    let mode = set.channel_mode;
+    let allocation = set.allocation;
+    [
+        rate[0],
+        rate[1],
+        rate[2],
+        rate[3],
+        mode.number(),
+        allocation.number(),
+        set.blocks,
+        set.subbands,
+        set.bitpool,
+    ]
+}
+
+// The error byte of a set.
+fn refusal(set: SbcParameters) -> u8 {
+    match set.validate() {
+        Validated::Accepted => 0,
+        Validated::Refused(error) => error.number(),
+    }
+}
+
+// The bits of a set with these factors, of both channels.
+fn allocated(set: SbcParameters, f: [u8; 16]) -> [u8; 16] {
+    let bits = allocate(
+        set,
+        [
+            [f[0], f[1], f[2], f[3], f[4], f[5], f[6], f[7]],
+            [f[8], f[9], f[10], f[11], f[12], f[13], f[14], f[15]],
+        ],
+    );
+    let l = bits[0];
+    let r = bits[1];
+    [
+        l[0],
+        l[1],
+        l[2],
+        l[3],
+        l[4],
+        l[5],
+        l[6],
+        l[7],
+        r[0],
+        r[1],
+        r[2],
+        r[3],
+        r[4],
+        r[5],
+        r[6],
+        r[7],
+    ]
+}
+
+fn answer_allocated(error: u8, bits: [u8; 16]) {
+    answer(&[error]);
+    answer(&bits);
+}
+
+fn answer_parsed(parsed: Parsed) {
+    match parsed {
+        Parsed::Parameters(set) => {
+            answer_set(0, bytes_of(set));
+        }
+        Parsed::Refused(error) => {
+            answer_set(error.number(), NO_SET);
+        }
+    }
+}
+
+fn answer_last(last: LastParameters) {
+    answer(&[0]);
+    match last {
+        LastParameters::Some(set) => {
+            answer_set(1, bytes_of(set));
+        }
+        LastParameters::None => {
+            answer_set(0, NO_SET);
+        }
+    }
+}
+
+// The call itself. The raw buffer holds the samples as they come and go.
+fn run_encoder(encoder: SbcEncoder, raw: &[u8], bytes: &mut [u8], samples: &mut [i16]) -> SbcEncoder
+    requires { ⌜ length (now raw) ≡ 2 * length (now samples) ⌝ }
+{
+    pcm::read(raw, samples);
+    let result = encoder.encode(samples, bytes);
+    let coded = result.answer;
+    answer_encoded(coded, bytes);
+    result.encoder
+}
+
+fn run_decoder(decoder: SbcDecoder, raw: &mut [u8], bytes: &[u8], samples: &mut [i16]) -> SbcDecoder
+    requires { ⌜ length (now raw) ≡ 2 * length (now samples) ⌝ }
+{
+    pcm::read(raw, samples);
+    let result = decoder.decode(bytes, samples);
+    let coded = result.answer;
+    answer_decoded(coded, samples, raw);
+    result.decoder
+}
+
+impl Replay {
+    fn new() -> Replay {
+        let created = SbcEncoder::new(SbcParameters::HIGH_QUALITY);
+        let encoder = created.encoder;
+        Replay {
+            decoder: SbcDecoder::new(),
+            encoder,
+            going: true,
+        }
+    }
+
+    fn stopped(mut self) -> Replay {
+        self.going = false;
+        self
+    }
+
+    fn with_decoder(mut self, decoder: SbcDecoder) -> Replay {
+        self.decoder = decoder;
+        self
+    }
+
+    fn with_encoder(mut self, encoder: SbcEncoder) -> Replay {
+        self.encoder = encoder;
+        self
+    }
+
+    fn parse(self, bytes: &mut [u8]) -> Replay {
+        let mut length = [0u8; 2];
+        if !fill(&mut length) {
+            return self.stopped();
+        }
+        let count = number(length[0], length[1], 0, 0) as usize;
+        if count > bytes.len() {
+            return self.stopped();
+        }
+        self.parse_lent(&mut bytes[..count])
+    }
+
+    fn parse_lent(self, bytes: &mut [u8]) -> Replay {
+        if !fill(bytes) {
+            return self.stopped();
+        }
+        answer_parsed(SbcParameters::parse(bytes));
+        self
+    }
+
+    fn validate(self) -> Replay {
+        let mut set = NO_SET;
+        if !fill(&mut set) {
+            return self.stopped();
+        }
+        answer(&[refusal(set_of(set))]);
+        self
+    }
+
+    fn new_encoder(self) -> Replay {
+        let mut set = NO_SET;
+        if !fill(&mut set) {
+            return self.stopped();
+        }
+        let created = SbcEncoder::new(set_of(set));
+        let outcome = created.outcome;
+        match outcome {
+            Validated::Accepted => {
+                answer(&[0]);
+                let encoder = created.encoder;
+                self.with_encoder(encoder)
+            }
+            Validated::Refused(error) => {
+                answer(&[error.number()]);
+                self
+            }
+        }
+    }
+
+    fn encode(self, raw: &mut [u8], bytes: &mut [u8], samples: &mut [i16]) -> Replay {
+        let mut l = [0u8; 8];
+        if !fill(&mut l) {
+            return self.stopped();
+        }
+        let count = number(l[0], l[1], l[2], l[3]) as usize;
+        let room = number(l[4], l[5], l[6], l[7]) as usize;
+        if count > samples.len() {
+            return self.stopped();
+        }
+        if room > bytes.len() {
+            return self.stopped();
+        }
+        if 2 * count > raw.len() {
+            return self.stopped();
+        }
+        self.encode_lent(
+            &mut raw[..2 * count],
+            &mut bytes[..room],
+            &mut samples[..count],
+        )
+    }
+
+    fn encode_lent(self, raw: &mut [u8], bytes: &mut [u8], samples: &mut [i16]) -> Replay
+        requires { ⌜ length (now raw) ≡ 2 * length (now samples) ⌝ }
+    {
+        if !fill_both(raw, bytes) {
+            return self.stopped();
+        }
+        let encoder = self.encoder;
+        self.with_encoder(run_encoder(encoder, raw, bytes, samples))
+    }
+
+    fn decode(self, raw: &mut [u8], bytes: &mut [u8], samples: &mut [i16]) -> Replay {
+        let mut l = [0u8; 8];
+        if !fill(&mut l) {
+            return self.stopped();
+        }
+        let count = number(l[0], l[1], l[2], l[3]) as usize;
+        let room = number(l[4], l[5], l[6], l[7]) as usize;
+        if count > bytes.len() {
+            return self.stopped();
+        }
+        if room > samples.len() {
+            return self.stopped();
+        }
+        if 2 * room > raw.len() {
+            return self.stopped();
+        }
+        self.decode_lent(
+            &mut raw[..2 * room],
+            &mut bytes[..count],
+            &mut samples[..room],
+        )
+    }
+
+    fn decode_lent(self, raw: &mut [u8], bytes: &mut [u8], samples: &mut [i16]) -> Replay
+        requires { ⌜ length (now raw) ≡ 2 * length (now samples) ⌝ }
+    {
+        if !fill_both(bytes, raw) {
+            return self.stopped();
+        }
+        let decoder = self.decoder;
+        self.with_decoder(run_decoder(decoder, raw, bytes, samples))
+    }
+
+    fn seek(self) -> Replay {
+        let mut position = [0u8; 8];
+        if !fill(&mut position) {
+            return self.stopped();
+        }
+        let decoder = self.decoder;
+        let sought = decoder.seek(long_number(position));
+        let outcome = sought.outcome;
+        answer_sought(outcome);
+        let decoder = sought.decoder;
+        self.with_decoder(decoder)
+    }
+
+    fn allocate(self) -> Replay {
+        let mut set = NO_SET;
+        let mut factors = [0u8; 16];
+        if !fill(&mut set) {
+            return self.stopped();
+        }
+        if !fill(&mut factors) {
+            return self.stopped();
+        }
+        let parameters = set_of(set);
+        let error = refusal(parameters);
+        if error == 0 {
+            answer_allocated(0, allocated(parameters, factors));
+            return self;
+        }
+        answer_allocated(error, [0u8; 16]);
+        self
+    }
+
+    fn finish(self) -> Replay {
+        answer(&[0]);
+        let decoder = self.decoder;
+        self.with_decoder(decoder.finish())
+    }
+
+    fn reset_decoder(self) -> Replay {
+        answer(&[0]);
+        let decoder = self.decoder;
+        self.with_decoder(decoder.reset())
+    }
+
+    fn reset_encoder(self) -> Replay {
+        answer(&[0]);
+        let encoder = self.encoder;
+        self.with_encoder(encoder.reset())
+    }
+
+    fn parameters(self) -> Replay {
+        let decoder = self.decoder;
+        answer_last(decoder.parameters());
+        self
+    }
+
+    // One request.
+    fn next(self, raw: &mut [u8], bytes: &mut [u8], samples: &mut [i16]) -> Replay {
+        let mut request = [0u8; 1];
+        if !fill(&mut request) {
+            return self.stopped();
+        }
+        match request[0] {
+            b'P' => self.parse(bytes),
+            b'V' => self.validate(),
+            b'N' => self.new_encoder(),
+            b'E' => self.encode(raw, bytes, samples),
+            b'D' => self.decode(raw, bytes, samples),
+            b'S' => self.seek(),
+            b'F' => self.finish(),
+            b'R' => self.reset_decoder(),
+            b'r' => self.reset_encoder(),
+            b'Q' => self.parameters(),
+            b'A' => self.allocate(),
+            _ => self.stopped(),
+        }
+    }
+}
+
+// A proved loop has to end, and nothing says that the input does. So the loop counts its turns down, from a number that no run uses up.
+fn run(raw: &mut [u8], bytes: &mut [u8], samples: &mut [i16]) {
+    let mut turns = u64::MAX;
+    let mut replay = Replay::new();
+    while turns > 0 && replay.going {
+        replay = replay.next(raw, bytes, samples);
+        turns -= 1;
+    }
+}
+
+fn main() {
+    let mut raw = [0u8; 131072];
+    let mut bytes = [0u8; 65536];
+    let mut samples = [0i16; 65536];
+    run(&mut raw, &mut bytes, &mut samples);
+}
