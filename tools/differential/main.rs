@@ -2,10 +2,12 @@
 //!
 //!     differential                            answers the calls of standard input with the Rust codec, as sbc_replay must
 //!     differential generate SEED COUNT        writes a list of calls
+//!     differential streams FOLDER             writes a list of calls on streams that others made
 //!     differential compare LIST PROGRAM SAVE  runs a list through the Rust and through a program; a difference is made small and shown
 mod compare;
 mod generate;
 mod protocol;
+mod streams;
 
 use std::io::{BufWriter, Read, Write};
 
@@ -23,6 +25,7 @@ fn main() {
             let list = generate::generate(seed.parse().expect("a seed"), count.parse().expect("a count"));
             output.write_all(&list).expect("the list is written");
         }
+        ["streams", folder] => output.write_all(&streams::streams(folder.as_ref())).expect("the list is written"),
         ["compare", list, program, save] => {
             let same = compare::compare(&std::fs::read(list).expect("the list is read"), program, save);
             std::process::exit(if same { 0 } else { 1 });
