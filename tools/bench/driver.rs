@@ -1,10 +1,12 @@
 //! The benchmark's driver: the same inputs through the oracle (rust) or the proved crates (rattle).
 //!
-//!     driver KERNEL rust|rattle N      runs the kernel N times and prints a digest of what it gave, the same for both
+//!     driver KERNEL rust|rattle N      runs the kernel N times and prints a digest of what it gave, the same for both; of whole calls also the
+//!                                      nanoseconds, to standard error
 use nanoaudio_core::codec::{Decoder, Encoder};
 use nanoaudio_sbc::exports;
 use nanoaudio_sbc::{SbcAllocation, SbcChannelMode, SbcDecoder, SbcEncoder, SbcParameters};
 use nanoaudio_sbc_blocks::exports_of_blocks;
+use std::time::Instant;
 
 unsafe extern "C" {
     fn rattle_checksum(frame: *const u8, length: usize, side_bits: usize) -> u8;
@@ -276,11 +278,13 @@ fn decode(rattle: bool, n: u64, parameters: &SbcParameters) -> u64 {
     SbcEncoder::new(*parameters).unwrap().encode(&pcm, &mut stream).unwrap();
     let mut output = vec![0i16; pcm.len()];
     let mut progress = [0u64; 2];
+    let start = Instant::now();
     if rattle {
         unsafe { rattle_decode(stream.as_ptr(), stream.len(), output.as_mut_ptr(), output.len(), &mut progress) };
     } else {
         progress = exports_of_calls::decode(&stream, &mut output);
     }
+    eprintln!("{}", start.elapsed().as_nanos());
     assert_eq!(progress, [stream.len() as u64, output.len() as u64]);
     output.iter().fold(0, |digest, sample| mix(digest, *sample as u64))
 }
@@ -290,6 +294,7 @@ fn encode(rattle: bool, n: u64, p: &SbcParameters) -> u64 {
     let pcm = pcm(p, n);
     let mut stream = vec![0xAAu8; n as usize * p.frame_length()];
     let mut progress = [0u64; 2];
+    let start = Instant::now();
     if rattle {
         let mode = MODES.iter().position(|mode| *mode == p.channel_mode).unwrap() as u8;
         let (input, output) = ((pcm.as_ptr(), pcm.len()), (stream.as_mut_ptr(), stream.len()));
@@ -297,6 +302,7 @@ fn encode(rattle: bool, n: u64, p: &SbcParameters) -> u64 {
     } else {
         progress = exports_of_calls::encode(p, &pcm, &mut stream);
     }
+    eprintln!("{}", start.elapsed().as_nanos());
     assert_eq!(progress, [pcm.len() as u64, stream.len() as u64]);
     stream.iter().fold(0, |digest, byte| mix(digest, *byte as u64))
 }
