@@ -1,7 +1,10 @@
 // What a program that reads a stream of any length through one buffer shares with others: reading on, keeping what is not used yet, and
 // saying why it stops.
+ghost use mathlib.Core.Path.{_≡_};
+ghost use mathlib.Core.List.{_++_};
 ghost use Prim.Native.Nat.{_+_, _≤_};
-ghost use lib.ListN.{length};
+ghost use lib.ListN.{length, take, drop};
+ghost use Rattle.stream.specs.Kept.{keptCount, kept};
 use libc::STDERR_FILENO;
 use libc::STDIN_FILENO;
 
@@ -21,7 +24,10 @@ fn read_some(room: &mut [u8]) -> usize
 }
 
 // Keeps of the first `held` bytes those behind the first `used`: they move to the front. Answers how many they are.
-pub fn keep(bytes: &mut [u8], used: usize, held: usize) -> usize {
+pub fn keep(bytes: &mut [u8], used: usize, held: usize) -> usize
+    ensures kept { λ r. ⌜ r ≡ keptCount (length (now (bytes .entry))) used held ⌝ }
+    ensures bytes { λ r. ⌜ now (bytes .exit) ≡ kept (now (bytes .entry)) used held ⌝ }
+{
     if held > bytes.len() {
         return 0;
     }
@@ -34,6 +40,7 @@ pub fn keep(bytes: &mut [u8], used: usize, held: usize) -> usize {
 
 fn to_front(bytes: &mut [u8], from: usize, count: usize)
     requires { ⌜ from + count ≤ length (now bytes) ⌝ }
+    ensures { λ _. ⌜ now (bytes .exit) ≡ take count (drop from (now (bytes .entry))) ++ drop count (now (bytes .entry)) ⌝ }
 {
     for i in 0..count {
         bytes[i] = bytes[from + i];
