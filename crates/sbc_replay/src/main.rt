@@ -60,46 +60,14 @@ fn answer(bytes: &[u8]) {
 }
 
 fn answer_set(error: u8, set: [u8; 9]) {
-    answer(
-        &[
-            error,
-            set[0],
-            set[1],
-            set[2],
-            set[3],
-            set[4],
-            set[5],
-            set[6],
-            set[7],
-            set[8],
-        ],
-    );
+    answer(&[error]);
+    answer(&set);
 }
 
 fn answer_progress(error: u8, consumed: u64, produced: u64) {
-    let c = long_bytes(consumed);
-    let p = long_bytes(produced);
-    answer(
-        &[
-            error,
-            c[0],
-            c[1],
-            c[2],
-            c[3],
-            c[4],
-            c[5],
-            c[6],
-            c[7],
-            p[0],
-            p[1],
-            p[2],
-            p[3],
-            p[4],
-            p[5],
-            p[6],
-            p[7],
-        ],
-    );
+    answer(&[error]);
+    answer(&long_bytes(consumed));
+    answer(&long_bytes(produced));
 }
 
 fn answer_coded(coded: Coded) {
@@ -126,25 +94,9 @@ fn answer_decoded(coded: Coded, samples: &[i16], raw: &mut [u8])
 }
 
 fn answer_seek(error: u8, offset: u64, skip: u32) {
-    let o = long_bytes(offset);
-    let s = number_bytes(skip);
-    answer(
-        &[
-            error,
-            o[0],
-            o[1],
-            o[2],
-            o[3],
-            o[4],
-            o[5],
-            o[6],
-            o[7],
-            s[0],
-            s[1],
-            s[2],
-            s[3],
-        ],
-    );
+    answer(&[error]);
+    answer(&long_bytes(offset));
+    answer(&number_bytes(skip));
 }
 
 fn answer_sought(outcome: SeekOutcome) {
@@ -195,40 +147,26 @@ fn refusal(set: SbcParameters) -> u8 {
     }
 }
 
-// The bits of a set with these factors, of both channels.
-fn allocated(set: SbcParameters, f: [u8; 16]) -> [u8; 16] {
-    let bits = allocate(
-        set,
-        [
-            [f[0], f[1], f[2], f[3], f[4], f[5], f[6], f[7]],
-            [f[8], f[9], f[10], f[11], f[12], f[13], f[14], f[15]],
-        ],
-    );
-    let l = bits[0];
-    let r = bits[1];
-    [
-        l[0],
-        l[1],
-        l[2],
-        l[3],
-        l[4],
-        l[5],
-        l[6],
-        l[7],
-        r[0],
-        r[1],
-        r[2],
-        r[3],
-        r[4],
-        r[5],
-        r[6],
-        r[7],
-    ]
+fn answer_row(row: [u8; 8]) {
+    answer(&row);
 }
 
-fn answer_allocated(error: u8, bits: [u8; 16]) {
+fn answer_rows(error: u8, rows: [[u8; 8]; 2]) {
+    let left = rows[0];
+    let right = rows[1];
     answer(&[error]);
-    answer(&bits);
+    answer_row(left);
+    answer_row(right);
+}
+
+// The bits of the two rows of factors.
+fn answer_allocated(set: SbcParameters, left: [u8; 8], right: [u8; 8]) {
+    let error = refusal(set);
+    if error == 0 {
+        answer_rows(0, allocate(set, [left, right]));
+        return;
+    }
+    answer_rows(error, [[0u8; 8], [0u8; 8]]);
 }
 
 fn answer_parsed(parsed: Parsed) {
@@ -431,20 +369,15 @@ impl Replay {
 
     fn allocate(self) -> Replay {
         let mut set = NO_SET;
-        let mut factors = [0u8; 16];
+        let mut left = [0u8; 8];
+        let mut right = [0u8; 8];
         if !fill(&mut set) {
             return self.stopped();
         }
-        if !fill(&mut factors) {
+        if !fill_both(&mut left, &mut right) {
             return self.stopped();
         }
-        let parameters = set_of(set);
-        let error = refusal(parameters);
-        if error == 0 {
-            answer_allocated(0, allocated(parameters, factors));
-            return self;
-        }
-        answer_allocated(error, [0u8; 16]);
+        answer_allocated(set_of(set), left, right);
         self
     }
 
