@@ -8,14 +8,14 @@ use mathlib.Core.List.{List, [], _∷_, _++_, append-assoc, append-nil}
 use native.Mathlib.Nat.{one-mul, zero-div}
 use native.Mathlib.Numerals.{add-one}
 use native.Mathlib.Omega.{arith}
-use lib.ListN.{length, take, set, replicate, length-append, length-set}
+use lib.ListN.{length, take, set, replicate, length-append}
 use lib.Seq.{length-take-le, take-all, take-suc-set}
-use lib.Pow.{pow-pos, pow-add, split, high, shl-lt, shr-lt, shl-exact}
+use lib.Pow.{pow-add, split, high, shl-lt, shr-lt, shl-exact}
 use lib.Arith.{digits-lt}
 use Rattle.laws.specs.Lists.{collect}
 use Rattle.laws.specs.Bits.{odd, bitsOf, bitsOfBytes, bytesOf}
 use Rattle.laws.proofs.Bits.{length-bitsOf, length-bitsOfBytes, bits-low, bits-append, bits-of-append, bytes-bits, Bytes}
-use Rattle.bits.proofs.Bytewise.{set-small}
+use Rattle.sbc_frame.specs.declared.writing.Writer.{Writer}
 use Rattle.sbc_frame.specs.Pieces.{bitsIn, filled}
 
 -- ---- numbers
@@ -109,27 +109,21 @@ module _ (bytes : List ℕ) (small : Bytes bytes) (at bits : ℕ) where
       filled-by bytes (before ++ []) small
       (sym (rw z (append-nil (before ++ []) ∙ append-nil before ∙ ap bitsOfBytes (take-all at bytes (omega arith)))))
 
-  -- the last byte has the bits held, and zeros
-  pub finished-last : (held : ℕ) → at + 1 ≡ length bytes → held ≤ 8 → bits < 2 ^ held
-      → set bytes at (bits * 2 ^ (8 - held)) ≡ filled (length bytes) (bitsIn bytes (record { at = at; held = held; bits = bits }))
-  unfolding bitsIn
-  finished-last held e h k =
-      let x : ℕ = bits * 2 ^ (8 - held) in
-      let out : List ℕ = set bytes at x in
-      let before : List Bool = bitsOfBytes (take at bytes) in
-      let same : length out ≡ length bytes = length-set bytes at x in
-      let room : 8 - held ≡ 8 * length out - length (before ++ bitsOf held bits) = omega (arith, length-in bytes at held bits (omega arith)) in
-      let eight : 8 ≡ held + (8 - held) = omega arith in
-      let plain : x ≡ x + 0 = omega arith in
-      let last : bitsOf 8 x ≡ bitsOf held bits ++ replicate (8 - held) false =
-      ap₂ {C = List Bool} bitsOf eight plain ∙ bits-joined held (8 - held) bits 0 (pow-pos (8 - held))
-      ∙ ap (λ (l : List Bool). bitsOf held bits ++ l) (bits-zero (8 - held)) in
-      let all : bitsOfBytes out ≡ (before ++ bitsOf held bits) ++ replicate (8 * length out - length (before ++ bitsOf held bits)) false =
-      ap bitsOfBytes (sym (take-all (at + 1) out (omega arith))) ∙ bits-stored bytes at x (omega arith)
-      ∙ ap (λ (l : List Bool). before ++ l) last ∙ sym (append-assoc before (bitsOf held bits) (replicate (8 - held) false))
-      ∙ ap (λ (n : ℕ). (before ++ bitsOf held bits) ++ replicate n false) room in
-      filled-by out (before ++ bitsOf held bits) (set-small bytes at x (last-lt held bits h k) small) all
-      ∙ ap (λ (n : ℕ). filled n (before ++ bitsOf held bits)) same
+-- with zeros behind the bits held the last byte is full
+module _ (bytes out : List ℕ) (small : Bytes out) (same : length out ≡ length bytes) (w r : Writer) where
+  all-out : r .held ≡ 0 → r .at ≡ length out → bitsOfBytes out ≡ bitsIn out r
+  unfolding bitsIn bitsOf
+  all-out none e =
+      sym (append-nil (bitsOfBytes out)) ∙ ap₂ {C = List Bool} _++_ (ap bitsOfBytes (sym (take-all (r .at) out (omega arith)))) (sym (rw none))
+
+  pub finished-zeros : w .at + 1 ≡ length bytes → w .held ≤ 8 → r .held ≡ 0 → r .at ≡ length out
+      → bitsIn out r ≡ bitsIn bytes w ++ bitsOf (8 - w .held) 0 → out ≡ filled (length bytes) (bitsIn bytes w)
+  finished-zeros e h none full put =
+      let room : 8 - w .held ≡ 8 * length out - length (bitsIn bytes w) = omega (arith, length-in bytes (w .at) (w .held) (w .bits) (omega arith)) in
+      filled-by out (bitsIn bytes w) small
+      (all-out none full ∙ put
+      ∙ ap (λ (l : List Bool). bitsIn bytes w ++ l) (bits-zero (8 - w .held) ∙ ap (λ (n : ℕ). replicate n false) room))
+      ∙ ap (λ (n : ℕ). filled n (bitsIn bytes w)) same
 
 -- ---- a list of fields
 -- one field more

@@ -40,8 +40,7 @@ pub fn finish(bytes: &mut [u8], writer: Writer)
     ensures { λ _. ⌜ now (bytes .exit) ≡ filled (length (now (bytes .entry))) (bitsIn (now (bytes .entry)) writer) ⌝ }
 {
     if 0 < writer.held {
-        let at = writer.at;
-        bytes[at] = (writer.bits << (8 - writer.held)) as u8;
+        put(bytes, writer, 0, 8 - writer.held);
     }
 }
 
