@@ -1,5 +1,5 @@
-//! Calls on what others made: the published mSBC frame of silence, both ways, and streams that BlueZ's encoder wrote, each beside the PCM that
-//! BlueZ's decoder made of it (streams/README.md). The Rust must agree with them, or there is no list.
+//! Calls on what others made: the published mSBC frame of silence, both ways, and streams that BlueZ's and FFmpeg's encoders wrote, each beside the
+//! PCM that their own decoder made of it (streams/README.md). The Rust must agree with them, or there is no list.
 use crate::protocol::{Codec, Request};
 use nanoaudio_sbc::SbcParameters;
 use std::path::Path;
@@ -11,7 +11,7 @@ const SILENCE: [u8; 57] = [
     0x6D, 0xB6, 0xDD, 0xDB, 0x6D, 0xB7, 0x76, 0xDB, 0x6C,
 ];
 
-/// How far the PCM of the two may be apart: BlueZ has coarser tables.
+/// How far the PCM of the two may be apart: theirs have coarser tables.
 const NEAR: i32 = 8;
 
 fn samples(bytes: &[u8]) -> Vec<i16> {
@@ -45,7 +45,7 @@ pub fn streams(folder: &Path) -> Vec<u8> {
         let answer = list.call(Request::Decode(std::fs::read(file).expect("a stream"), vec![0; theirs.len()]));
         let ours = samples(&answer[17..]);
         let apart = ours.iter().zip(&theirs).map(|(a, b)| (*a as i32 - *b as i32).abs()).max().expect("some samples");
-        eprintln!("{}: {} samples, at most {apart} from BlueZ's", file.display(), theirs.len());
+        eprintln!("{}: {} samples, at most {apart} from theirs", file.display(), theirs.len());
         assert!(answer[0] == 0 && apart <= NEAR, "the two decoders agree");
     }
     list.bytes
