@@ -573,8 +573,15 @@ fn look_behind(parameters: SbcParameters, input: &[u8]) -> Front
     let checksum = crc8::checksum(&input[..length], parameters.side_bits());
     Front::Whole(WholeFrame {
         parameters,
-        good: checksum == input[3],
+        good: is_checksum(checksum, input[3]),
     })
+}
+
+// Whether a byte is the checksum.
+fn is_checksum(checksum: u8, byte: u8) -> bool
+    ensures { λ r. ⌜ r ≡ eqb checksum byte ⌝ }
+{
+    checksum == byte
 }
 
 // Leaves out the first samples of a frame's: the others move to the front, and the places behind them keep what they held.

@@ -1,8 +1,10 @@
 -- `look_behind` meets its contract: a whole frame has a byte 3, and its checksum is compared with it.
 -- Assumes nothing.
-use mathlib.Core.Path.{_≡_, sym, ap₂, _∙_}
+use Prim.Native.Nat.{ℕ}
+use mathlib.Core.Path.{_≡_, sym, ap, ap₂, _∙_}
 use native.Mathlib.Omega.{arith}
-use lib.ListN.{length, take}
+use lib.Dec.{eqb}
+use lib.ListN.{length, getD, take}
 use lib.Seq.{length-take-le}
 use borrow.Author.Tests.{lt-ltb, le-ltb}
 use Rattle.crc8.specs.Checksum.{checksum}
@@ -35,21 +37,27 @@ side-bits-requires c κs = search needs
 checksum-requires : tie.Need-checksum-requires
 checksum-requires c κs = search needs
 
-shared-slice-read-t10 : tie.Need-shared-slice-read-t10
-shared-slice-read-t10 c =
+shared-slice-read-is-checksum : tie.Need-shared-slice-read-is-checksum
+shared-slice-read-is-checksum c =
     let start = c .before .before .before .before .before .before .before in
     omega (arith, frame-length-range (start .args .parameters) (start .pre) .0, c .before .before .before .before .before .frame-length .ensures)
+
+is-checksum-requires : tie.Need-is-checksum-requires
+is-checksum-requires c κs = search needs
 
 returns-2 : tie.Need-returns-2
 unfolding toldFront lookBehind
 returns-2 c =
-    let start = c .before .before .before .before .before .before .before in
+    let read = c .before in
+    let start = read .before .before .before .before .before .before .before in
     let p = start .args .parameters in
     let input = start .args .input .now in
-    let long = c .before .before .before .before .before .frame-length .ensures in
-    let sum : c .before .checksum .result ≡ checksum (take (frameLength p) input) (sideBits p) =
-    c .before .checksum .ensures ∙ ap₂ (λ n bits. checksum (take n input) bits) long (c .before .before .side-bits .ensures) in
-    rw (le-ltb (length input) (frameLength p) (omega (arith, c .before .before .before .before .if1 .left, long)), sum)
+    let long = read .before .before .before .before .before .frame-length .ensures in
+    let sum : read .before .checksum .result ≡ checksum (take (frameLength p) input) (sideBits p) =
+    read .before .checksum .ensures ∙ ap₂ (λ n bits. checksum (take n input) bits) long (read .before .before .side-bits .ensures) in
+    let good : c .is-checksum .result ≡ eqb (checksum (take (frameLength p) input) (sideBits p)) (getD input 3 0) =
+    c .is-checksum .ensures ∙ ap (λ (n : ℕ). eqb n (getD input 3 0)) sum in
+    rw (le-ltb (length input) (frameLength p) (omega (arith, read .before .before .before .before .if1 .left, long)), good)
 
 pub look-behind-spec : {M : Type 1} → statement M
 look-behind-spec =
@@ -60,5 +68,6 @@ look-behind-spec =
     slice-aggregate-checksum
     side-bits-requires
     checksum-requires
-    shared-slice-read-t10
+    shared-slice-read-is-checksum
+    is-checksum-requires
     returns-2)
