@@ -22,6 +22,17 @@ use Rattle.laws.specs.Sums.{upTo, overwrite}
 use Rattle.laws.proofs.Cases.{by-test}
 use Rattle.laws.proofs.Lists.{length-build, getD-build, build-is, build-ext, build-all}
 
+-- ---- one store
+-- a store at i makes a list built of f one built of g, where g has at i what is stored and agrees with f elsewhere
+pub build-set : {A : Type 0} (n : ℕ) (f g : ℕ → A) (i : ℕ) (v d : A) → v ≡ g i → ((k : ℕ) → k ≢ i → f k ≡ g k)
+    → set (build n f) i v ≡ build n g
+build-set {A} n f g i v d e same =
+    sym (build-is n g (set (build n f) i v) d (length-set (build n f) i v ∙ length-build n f) (λ k p. go k p (ℕ-discrete k i)))
+  where
+    go : (k : ℕ) → k < n → Dec (k ≡ i) → g k ≡ getD (set (build n f) i v) k d
+    go k p (yes q) = rw q (sym e ∙ sym (getD-set-same (build n f) i v d (rw (length-build n f) (rw q at p))))
+    go k p (no ne) = sym (same k ne) ∙ sym (getD-set-other (build n f) i k v d ne ∙ getD-build n f k d p)
+
 -- ---- f below n, and 0 from n on
 upTo-below : (n : ℕ) (f : ℕ → ℤ) (k : ℕ) → k < n → upTo n f k ≡ f k
 upTo-below n f k h = rw (lt-ltb k n h)
@@ -43,21 +54,14 @@ upTo-other : (i : ℕ) (f : ℕ → ℤ) (k : ℕ) → k ≢ i → upTo (i + 1) 
 upTo-other i f k ne =
     upTo-all (λ z. upTo (i + 1) f k ≡ z) i f k (λ h. upTo-below (i + 1) f k (omega arith)) (λ h. upTo-from (i + 1) f k (omega arith))
 
-fill-store : (n i : ℕ) (f : ℕ → ℤ) → i < n → set (build n (upTo i f)) i (f i) ≡ build n (upTo (i + 1) f)
-fill-store n i f h =
-    sym (build-is n (upTo (i + 1) f) (set xs i (f i)) (pos 0) (length-set xs i (f i) ∙ length-build n (upTo i f)) (λ k p. go k p (ℕ-discrete k i)))
-  where
-    xs : List ℤ
-    xs = build n (upTo i f)
-
-    go : (k : ℕ) → k < n → Dec (k ≡ i) → upTo (i + 1) f k ≡ getD (set xs i (f i)) k (pos 0)
-    go k p (yes e) = rw e (upTo-below (i + 1) f i (omega arith) ∙ sym (getD-set-same xs i (f i) (pos 0) (rw (length-build n (upTo i f)) h)))
-    go k p (no ne) = upTo-other i f k ne ∙ sym (getD-set-other xs i k (f i) (pos 0) ne ∙ getD-build n (upTo i f) k (pos 0) p)
+fill-store : (n i : ℕ) (f : ℕ → ℤ) → set (build n (upTo i f)) i (f i) ≡ build n (upTo (i + 1) f)
+fill-store n i f =
+    build-set n (upTo i f) (upTo (i + 1) f) i (f i) (pos 0) (sym (upTo-below (i + 1) f i (omega arith))) (λ k ne. sym (upTo-other i f k ne))
 
 -- what is stored at i is f i, as the machine reads it back
 pub stored : (w : Width) (n i : ℕ) (f : ℕ → ℤ) (xs : List ℤ) (v : ℤ) → SFits w v → i < n → xs ≡ build n (upTo i f) → v ≡ f i
     → set xs i (toZ w (ofZ w v)) ≡ build n (upTo (i + 1) f)
-stored w n i f xs v s h e q = ap₂ (λ (ys : List ℤ) (x : ℤ). set ys i x) e (toZ-ofZ s ∙ q) ∙ fill-store n i f h
+stored w n i f xs v s h e q = ap₂ (λ (ys : List ℤ) (x : ℤ). set ys i x) e (toZ-ofZ s ∙ q) ∙ fill-store n i f
 
 pub filled : (n i j : ℕ) (f : ℕ → ℤ) (xs : List ℤ) → i ≤ j → j ≤ i → xs ≡ build n (upTo i f) → xs ≡ build n (upTo j f)
 filled n i j f xs h k e = e ∙ ap (λ (m : ℕ). build n (upTo m f)) (omega arith)

@@ -1,9 +1,9 @@
 // The SBC and mSBC encoder and decoder: their states, what their calls give back, and the decoder's calls. The definitions of all calls stand
 // in specs/.
 use laws::least;
+use sbc_decode_frame::decode_frame;
+use sbc_encode_frame::encode_frame;
 use sbc_filterbank::Synthesis;
-use sbc_frame::decode_frame;
-use sbc_frame::encode_frame;
 use sbc_parameters::Error;
 use sbc_parameters::Parsed;
 use sbc_parameters::SbcParameters;

@@ -3,13 +3,13 @@
 -- Assumes nothing.
 use Prim.Native.Nat.{ℕ, _+_, _*_, _-_, _≤_, _<_}
 use mathlib.Core.Path.{_≡_, refl, sym, ap, _∙_, subst}
-use mathlib.Core.Logic.{inl, inr, ⊎-elim}
+use mathlib.Core.Logic.{⊎-elim}
 use mathlib.Core.Bool.{Bool, true, false}
 use mathlib.Core.List.{List, _++_}
 use native.Mathlib.Omega.{arith}
-use lib.Dec.{eqb, ltb, leb, leb→le, lit≤}
-use lib.ListN.{length, getD, take, List·getD-eq-default, replicate, length-append, length-replicate, getD-replicate, List·getD-append}
-use lib.Seq.{getD-append-add, take-at}
+use lib.Dec.{ltb, leb, leb→le, lit≤}
+use lib.ListN.{length, getD, List·getD-eq-default, replicate, length-append, length-replicate, getD-replicate, List·getD-append}
+use lib.Seq.{getD-append-add}
 use lib.IntN.{ℤ, pos, natAbs}
 use borrow.Author.Tests.{ltb-true, ltb-false}
 use Rattle.laws.specs.Lists.{total, build}
@@ -18,7 +18,7 @@ use Rattle.laws.proofs.Cases.{by-test}
 use Rattle.laws.proofs.Lists.{length-build, getD-build, getD-build-out, build-is}
 use Rattle.laws.proofs.Table.{at}
 use Rattle.sbc_tables.specs.Tables.{prototype, prototype4, prototype8}
-use Rattle.sbc_filterbank.specs.Subbands.{Bands, bandsOf, prototypeAt, padded}
+use Rattle.sbc_filterbank.specs.Subbands.{Bands, prototypeAt, padded}
 use Rattle.sbc_filterbank.specs.Fold.{tapSum}
 
 -- ---- the numbers of subbands
@@ -27,9 +27,6 @@ for-bands {S} P b p q = ⊎-elim (λ e. subst P (sym e) p) (λ e. subst P (sym e
 
 pub bands-le : {S : ℕ} → Bands S → S ≤ 8
 bands-le b = for-bands (λ s. s ≤ 8) b (lit≤ tt) (lit≤ tt)
-
-pub bandsOf-is : (n : ℕ) → Bands (bandsOf n)
-bandsOf-is n = by-test Bands (eqb n 4) 4 8 (λ _. inl refl) (λ _. inr refl)
 
 -- ---- P: its length, and the sums of its entries that the filterbanks take
 pub prototype-length : {S : ℕ} → Bands S → length (prototype S) ≡ 10 * S
@@ -85,10 +82,6 @@ padded-at xs i = go (ltb i (length xs)) refl
         ap (λ (k : ℕ). getD (xs ++ replicate (8 - length xs) (pos 0)) k (pos 0)) (sym q)
         ∙ getD-append-add xs (replicate (8 - length xs) (pos 0)) (i - length xs) (pos 0) ∙ zeros (8 - length xs) (i - length xs)
         ∙ sym (List·getD-eq-default xs (pos 0) h)
-
-pub take-padded : (xs : List ℤ) → take (length xs) (padded xs) ≡ xs
-unfolding padded
-take-padded xs = take-at xs (replicate (8 - length xs) (pos 0)) (length xs) refl
 
 -- ---- n numbers in an array of eight are those that a loop has filled in
 pub padded-is : (n : ℕ) (f : ℕ → ℤ) → n ≤ 8 → build 8 (upTo n f) ≡ padded (build n f)

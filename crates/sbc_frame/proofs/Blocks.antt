@@ -3,9 +3,9 @@
 use Prim.Native.Nat.{ℕ, zero, suc, _+_, _*_, _≤_, _<_}
 use mathlib.Core.Path.{_≡_, refl, sym, ap, _∙_, subst}
 use mathlib.Core.Bool.{true}
-use mathlib.Core.Logic.{inl, inr}
+use mathlib.Core.Logic.{inl, inr, ⊎-elim}
 use mathlib.Core.List.{List, [], _∷_, _++_, append-assoc, append-nil}
-use native.Mathlib.Nat.{zero-mul, suc-mul}
+use native.Mathlib.Nat.{zero-mul, suc-mul, mul-comm, mul-le-mul-right}
 use native.Mathlib.Numerals.{add-one}
 use native.Mathlib.Omega.{arith}
 use lib.IntN.{ℤ}
@@ -105,3 +105,20 @@ asked p c C n a e h l = (
   omega (arith, channels-range p),
   subst (λ (k : ℕ). p .blocks * p .subbands * k ≤ n) (sym e) l,
 )
+
+-- ---- places
+-- sample k of a channel stands before where its sample n stands
+pub place-before : (C from k n : ℕ) → k < n → (from + k) * C + C ≤ (from + n) * C
+place-before C from k n h =
+    let q : suc (from + k) * C ≤ (from + n) * C = mul-le-mul-right C (omega arith) in omega (arith, suc-mul (from + k) C)
+
+-- the output has room for a block, as the code counts its places
+pub block-room : (S T b C n : ℕ) → T ≡ S → (b + 1) * T * C ≤ n → (S * b + S) * C ≤ n
+block-room S T b C n e h =
+    let q : (b + 1) * T ≡ S * b + S = rw (e, add-one) (omega (arith, suc-mul b S, mul-comm S b)) in
+    subst (λ (k : ℕ). k * C ≤ n) q h
+
+-- ---- a block
+-- not 4 subbands are 8
+pub eight : {S : ℕ} → Bands S → (S ≡ 4 → ⊥) → S ≡ 8
+eight b ne = ⊎-elim (λ e. absurd (ne e)) (λ e. e) b

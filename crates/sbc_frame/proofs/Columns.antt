@@ -9,28 +9,17 @@ use native.Mathlib.Nat.{le-refl}
 use native.Mathlib.Decide.{ℕ-discrete}
 use native.Mathlib.Omega.{arith}
 use lib.Dec.{eqb, ltb}
-use lib.ListN.{length, getD, set, length-set}
-use lib.Seq.{getD-set-same, getD-set-other}
+use lib.ListN.{length, getD, set}
 use lib.IntN.{ℤ, pos}
 use mir.Syntax.{w32}
 use mir.Val.{SFits, toZ, ofZ}
 use mir.Facts.{toZ-ofZ}
 use borrow.Author.Tests.{lt-ltb, le-ltb, eq-eqb, ltb-true, ltb-false, eqb-true, eqb-false}
 use Rattle.laws.specs.Choice.{if_then_else_}
-use Rattle.laws.specs.Lists.{build}
 use Rattle.laws.proofs.Cases.{by-test, by-both}
 use Rattle.laws.proofs.Lists.{length-build, getD-build, build-is}
-use Rattle.sbc_frame.specs.Parts.{withSubband, sampleIn}
-
--- a store at i makes a list built of f one built of g, where g has at i what is stored and agrees with f elsewhere
-pub build-set : {A : Type 0} (n : ℕ) (f g : ℕ → A) (i : ℕ) (v d : A) → v ≡ g i → ((k : ℕ) → k ≢ i → f k ≡ g k)
-    → set (build n f) i v ≡ build n g
-build-set {A} n f g i v d e same =
-    sym (build-is n g (set (build n f) i v) d (length-set (build n f) i v ∙ length-build n f) (λ k p. go k p (ℕ-discrete k i)))
-  where
-    go : (k : ℕ) → k < n → Dec (k ≡ i) → g k ≡ getD (set (build n f) i v) k d
-    go k p (yes q) = rw q (sym e ∙ sym (getD-set-same (build n f) i v d (rw (length-build n f) (rw q at p))))
-    go k p (no ne) = sym (same k ne) ∙ sym (getD-set-other (build n f) i k v d ne ∙ getD-build n f k d p)
+use Rattle.laws.proofs.Arrays.{build-set}
+use Rattle.sbc_frame.specs.Arrays.{withSubband, sampleIn}
 
 module _ (s : ℕ) (f : ℕ → ℤ) (xs : List ℤ) where
   -- what stands at a place, with n blocks replaced

@@ -17,7 +17,7 @@ use Rattle.sbc_parameters.proofs.Accepted.{channels-range, subbands-cases}
 use Rattle.sbc_allocation.specs.Allocate.{allocationTable}
 use Rattle.sbc_frame.specs.Fields.{widthAt, channelWidth}
 use Rattle.sbc_frame.specs.Layout.{factorPosition, valuePosition}
-use Rattle.sbc_frame.specs.Parts.{entry}
+use Rattle.sbc_frame.specs.Arrays.{entry}
 use Rattle.sbc_frame.proofs.Widths.{Enough, rows-enough, block-width, rows-width}
 
 -- ---- one part of many

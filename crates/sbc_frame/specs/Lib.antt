@@ -3,5 +3,4 @@ pub mod Layout
 pub mod Channels
 pub mod Encoding
 pub mod Decoding
-pub mod Parts
-pub mod Pieces
+pub mod Arrays

@@ -1,11 +1,2 @@
-// One frame of an SBC stream, decoded and encoded. The definitions of both directions stand in specs/.
-mod analyzing;
-pub mod decoding;
-pub mod encoding;
-mod joining;
-mod playing;
-mod subbands;
-mod writing;
-
-pub use decoding::decode_frame;
-pub use encoding::encode_frame;
+// One frame of an SBC stream. Its definitions, of both directions, stand in specs/, and their laws in proofs/; the code that decodes and encodes one is in
+// the crates sbc_decode_frame and sbc_encode_frame.

@@ -1,17 +1,16 @@
 -- What is known of an accepted set: mSBC's own, or each field among its listed values; and the sizes of its frame.
 -- Assumes nothing.
-use Prim.Native.Nat.{ℕ, zero, suc, _+_, _*_, _/_, _≤_, _<_}
-use mathlib.Core.Path.{_≡_, refl, sym, ap, _∙_}
+use Prim.Native.Nat.{ℕ, zero, suc, _*_, _≤_, _<_}
+use mathlib.Core.Path.{_≡_, refl}
 use mathlib.Core.Bool.{Bool, true, false}
-use mathlib.Core.List.{[], _∷_}
 use native.Mathlib.Omega.{arith}
 use native.Mathlib.Nat.{mul-le-mul, le-refl}
 use lib.Dec.{lit<, lit≤}
-use lib.ListN.{length, getD}
+use lib.ListN.{getD}
 use borrow.Author.Tests.{eqb-true, leb-true, ltb-true}
 use Rattle.laws.specs.Lists.{allOf, listed}
 use Rattle.laws.proofs.Tests.{all-true, listed-cases}
-use Rattle.sbc_parameters.specs.Parameters.{channelsOf, separate, isJoint, channels, sampleRates, blockCounts, subbandCounts, modeNumber, allocationNumber, maximumBitpool, isMsbc, msbc, msbcTests, fieldTests, accepted}
+use Rattle.sbc_parameters.specs.Parameters.{channelsOf, channels, sampleRates, blockCounts, subbandCounts, modeNumber, allocationNumber, maximumBitpool, isMsbc, msbc, msbcTests, fieldTests, accepted}
 use Rattle.sbc_parameters.specs.Sizes.{joinCount, blockBits, audioBits, frameLength, samplesPerChannel, frameSamples}
 use Rattle.sbc_parameters.specs.declared.SbcParameters.{SbcParameters}
 use Rattle.sbc_parameters.specs.declared.SbcChannelMode.{SbcChannelMode}

@@ -8,7 +8,6 @@ use lib.ListN.{getD}
 use Rattle.sbc_parameters.specs.Errors.{errorNumber}
 use Rattle.sbc_parameters.specs.Parameters.{toldValidated}
 use Rattle.sbc_parameters.specs.Header.{toldParsed}
-use Rattle.sbc_parameters.specs.declared.SbcParameters.{SbcParameters}
 use Rattle.sbc_parameters.specs.declared.Error.{Error}
 use Rattle.sbc_parameters.specs.declared.Error.the-variants.{Incomplete, InvalidHeader, InvalidParameter, InvalidData, BufferTooSmall}
 use Rattle.sbc_parameters.specs.declared.Parsed.{Parsed}

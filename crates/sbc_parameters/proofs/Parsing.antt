@@ -10,9 +10,8 @@ use lib.ListN.{length, getD, take, length-take}
 use lib.Seq.{getD-take}
 use borrow.Author.Tests.{lt-ltb, le-ltb, ne-eqb}
 use Rattle.laws.specs.Choice.{if_then_else_}
-use Rattle.laws.specs.Answers.{Told, gives, refuses}
-use Rattle.laws.specs.Lists.{indexOf, listed}
-use Rattle.laws.proofs.Bits.{Bytes, bytes-cons}
+use Rattle.laws.specs.Answers.{gives, refuses}
+use Rattle.laws.specs.Lists.{listed}
 use Rattle.laws.proofs.Tests.{listed-back}
 use Rattle.sbc_parameters.specs.Parameters.{sampleRates, blockCounts, channelModes, allocations, subbandCounts, modeNumber, allocationNumber, isMsbc, msbc, accepted}
 use Rattle.sbc_parameters.specs.Header.{placeIn, frequencyIndex, settingsByte, header, fromSettings, parse}
@@ -20,7 +19,7 @@ use Rattle.sbc_parameters.specs.declared.SbcParameters.{SbcParameters}
 use Rattle.sbc_parameters.specs.declared.SbcChannelMode.the-variants.{JointStereo}
 use Rattle.sbc_parameters.specs.declared.SbcAllocation.the-variants.{Snr}
 use Rattle.sbc_parameters.proofs.Numbers.{mode-lt, mode-back, allocation-lt, allocation-back, frequency-lt, blocks-lt, subbands-lt}
-use Rattle.sbc_parameters.proofs.Accepted.{Fields, fields, is-msbc, msbc-accepted, ranges}
+use Rattle.sbc_parameters.proofs.Accepted.{Fields, fields, is-msbc, msbc-accepted}
 
 -- ---- the cases
 pub parse-short : (bytes : List ℕ) → length bytes < 3 → parse bytes ≡ refuses 1
@@ -83,23 +82,6 @@ length-header p = go (isMsbc p)
     go : (t : Bool) → length (if t then 0xAD ∷ 0 ∷ 0 ∷ [] else 0x9C ∷ settingsByte p ∷ p .bitpool ∷ []) ≡ 3
     go true = refl
     go false = refl
-
--- each of them is a byte
-settings-lt : (p : SbcParameters) → settingsByte p < 256
-unfolding settingsByte
-settings-lt p =
-    omega (arith, frequency-lt p, blocks-lt (p .blocks), mode-lt (p .«channel_mode»), allocation-lt (p .allocation), subbands-lt (p .subbands))
-
-pub bytes-header : (p : SbcParameters) → accepted p ≡ true → Bytes (header p)
-unfolding header
-bytes-header p a = go (isMsbc p) refl
-  where
-    three : (x y z : ℕ) → x < 256 → y < 256 → z < 256 → Bytes (x ∷ y ∷ z ∷ [])
-    three x y z hx hy hz = bytes-cons x (y ∷ z ∷ []) hx (bytes-cons y (z ∷ []) hy (bytes-cons z [] hz (λ i. lit< tt)))
-
-    go : (t : Bool) → isMsbc p ≡ t → Bytes (header p)
-    go true e = rw e (three 0xAD 0 0 (lit< tt) (lit< tt) (lit< tt))
-    go false e = rw e (three 0x9C (settingsByte p) (p .bitpool) (lit< tt) (settings-lt p) (ranges p a .bitpool-byte))
 
 -- the first three bytes of a frame that was written for an accepted set give the set back
 pub parse-header : (p : SbcParameters) → accepted p ≡ true → (bytes : List ℕ) → take 3 bytes ≡ header p → parse bytes ≡ gives p

@@ -8,7 +8,6 @@ use native.Mathlib.Omega.{arith}
 use lib.Dec.{ltb}
 use lib.Pow.{pow-mono}
 use borrow.Author.Tests.{ltb-true, lt-ltb, le-ltb}
-use Rattle.laws.specs.Choice.{if_then_else_}
 use Rattle.laws.proofs.Cases.{by-test}
 use Rattle.sbc_quantizer.specs.Quantizing.{firstFrom, scaleFactor}
 

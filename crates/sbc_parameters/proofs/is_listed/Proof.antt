@@ -1,9 +1,5 @@
 -- `is_listed` meets its contract.
 -- Assumes nothing.
-use mathlib.Core.Path.{ap}
-use Prim.Native.Nat.{ℕ}
-use lib.Dec.{ltb}
-use lib.ListN.{length}
 use Rattle.laws.specs.Lists.{listed}
 use borrow.Author.Needs.{needs}
 use Rattle.sbc_parameters.proofs.is_listed.Statement.{statement}

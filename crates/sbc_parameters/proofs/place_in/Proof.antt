@@ -1,6 +1,5 @@
 -- `place_in` meets its contract.
 -- Assumes nothing.
-use mathlib.Core.Path.{sym}
 use borrow.Author.Tests.{lt-ltb, le-ltb}
 use Rattle.laws.specs.Lists.{listed}
 use Rattle.sbc_parameters.specs.Header.{placeIn}

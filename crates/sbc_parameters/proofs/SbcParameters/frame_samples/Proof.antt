@@ -1,6 +1,5 @@
 -- `SbcParameters::frame_samples` meets its contract: both factors are small.
 -- Assumes nothing.
-use Prim.Native.Nat.{_*_, _≤_}
 use native.Mathlib.Nat.{mul-le-mul}
 use native.Mathlib.Omega.{arith}
 use Rattle.sbc_parameters.specs.Sizes.{samplesPerChannel, frameSamples}

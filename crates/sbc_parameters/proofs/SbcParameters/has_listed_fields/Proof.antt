@@ -1,11 +1,9 @@
 -- `SbcParameters::has_listed_fields` meets its contract: each return is at the test of the list that fails, the last at the one that is left.
 -- Assumes nothing.
-use mathlib.Core.Path.{_≡_, sym, _∙_}
-use mathlib.Core.Bool.{true}
-use Prim.Native.Nat.{_<_}
+use mathlib.Core.Path.{sym, _∙_}
 use native.Mathlib.Omega.{arith}
 use borrow.Author.Tests.{not-true, not-false, le-leb, lt-leb, lt-ltb}
-use Rattle.laws.specs.Lists.{allOf, listed}
+use Rattle.laws.specs.Lists.{allOf}
 use Rattle.laws.proofs.Tests.{all-false, and-true}
 use Rattle.sbc_parameters.specs.Parameters.{sampleRates, blockCounts, subbandCounts, fieldTests}
 use borrow.Author.Needs.{needs}

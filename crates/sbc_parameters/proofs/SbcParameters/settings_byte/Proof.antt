@@ -1,6 +1,5 @@
 -- `SbcParameters::settings_byte` meets its contract: the calls give the five numbers of the definition, each within its bits.
 -- Assumes nothing.
-use mathlib.Core.Path.{_≡_}
 use native.Mathlib.Omega.{arith}
 use Rattle.sbc_parameters.specs.Parameters.{blockCounts, subbandCounts}
 use Rattle.sbc_parameters.specs.Header.{settingsByte}

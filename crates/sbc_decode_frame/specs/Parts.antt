@@ -1,0 +1,76 @@
+-- How the code of the decoder takes a frame in parts, for the contracts of its inner functions alone: the subband samples of a channel stand in
+-- an array of 128, eight places a block, and a channel's PCM goes into its places of the output block by block. Nothing public cites this.
+use Prim.Native.Nat.{ℕ, zero, suc, _+_, _*_, _-_, _≤_, _<_}
+use mathlib.Core.Path.{_≡_}
+use mathlib.Core.List.{List, [], _∷_}
+use lib.Dec.{ltb}
+use lib.ListN.{getD, set}
+use lib.IntN.{ℤ, natAbs}
+use Rattle.laws.specs.Choice.{if_then_else_}
+use Rattle.laws.specs.Lists.{build, total}
+use Rattle.bits.specs.Fields.{numberAt}
+use Rattle.sbc_parameters.specs.Parameters.{channels}
+use Rattle.sbc_parameters.specs.Sizes.{joinCount}
+use Rattle.sbc_parameters.specs.declared.SbcParameters.{SbcParameters}
+use Rattle.sbc_quantizer.specs.Quantizing.{reconstruct}
+use Rattle.sbc_filterbank.specs.declared.synthesis.Synthesis.{Synthesis}
+use Rattle.sbc_frame.specs.Fields.{Fields}
+use Rattle.sbc_frame.specs.Channels.{noSynthesis, synthesisAfter}
+use Rattle.sbc_frame.specs.Decoding.{decodedAt}
+use Rattle.sbc_frame.specs.Arrays.{below, sampleIn, entry}
+
+-- ---- reading
+
+-- `count` numbers of `width` bits each, end to end from a position on, in a row of eight
+unfoldable pub rowAt : List ℕ → ℕ → ℕ → ℕ → List ℕ
+rowAt bytes position width count = build 8 (below count (λ s. numberAt bytes (position + s * width) width))
+
+-- the join flags and the scale factors of the channels, from the bytes of a frame
+abbrev pub flagRow : SbcParameters → List ℕ → List ℕ
+flagRow p bytes = rowAt bytes 32 1 (joinCount p)
+
+abbrev pub leftFactors : SbcParameters → List ℕ → List ℕ
+leftFactors p bytes = rowAt bytes (32 + joinCount p) 4 (p .subbands)
+
+abbrev pub rightFactors : SbcParameters → List ℕ → List ℕ
+rightFactors p bytes = rowAt bytes (32 + joinCount p + 4 * p .subbands) 4 (p .subbands * (channels p - 1))
+
+-- the sample of a subband in block b, where the subband's first value stands at a position and a block has so many bits
+unfoldable pub valueOf : List ℕ → ℕ → ℕ → ℕ → ℕ → ℕ → ℤ
+valueOf bytes position block-bits width factor b = reconstruct (numberAt bytes (position + b * block-bits) width) factor width
+
+-- no sample of the first n blocks has an absolute value above the bound
+abbrev pub Small : ℕ → ℕ → List ℤ → Type 0
+Small n bound xs = (b s : ℕ) → b < n → s < 8 → natAbs (sampleIn xs b s) ≤ bound
+
+-- the samples of a channel, whose first value stands at a position
+abbrev pub ChannelIn : List ℕ → List ℕ → List ℕ → ℕ → ℕ → ℕ → List ℤ → Type 0
+ChannelIn bytes widths factors position block-bits blocks xs =
+    (b s : ℕ) → b < blocks → s < 8
+    → sampleIn xs b s ≡ valueOf bytes (position + total s (entry widths)) block-bits (entry widths s) (entry factors s) b
+
+-- the samples of a frame
+abbrev pub FrameIn : SbcParameters → Fields → List ℤ → List ℤ → Type 0
+FrameIn p f left right =
+    (b c s : ℕ) → b < p .blocks → c < channels p → s < p .subbands → sampleIn (getD (left ∷ right ∷ []) c []) b s ≡ decodedAt p f b c s
+
+-- ---- playing
+
+-- the first n blocks of S samples each in an array of samples
+unfoldable pub blocksIn : ℕ → ℕ → List ℤ → List (List ℤ)
+blocksIn n S xs = build n (λ b. build S (λ s. sampleIn xs b s))
+
+-- the output of C channels with n samples of channel c put in, from its sample `from` on
+unfoldable pub placed : ℕ → ℕ → ℕ → ℕ → (ℕ → ℤ) → List ℤ → List ℤ
+placed C c from zero f xs = xs
+placed C c from (suc n) f xs = set (placed C c from n f xs) ((from + n) * C + c) (f n)
+
+-- a channel's history after its blocks. That of a channel that there is not stays as it is
+abbrev pub historyAfter : SbcParameters → List Synthesis → List ℤ → List ℤ → ℕ → Synthesis
+historyAfter p histories left right c =
+    let history = getD histories c noSynthesis in
+    if ltb c (channels p) then synthesisAfter (p .subbands) history (blocksIn (p .blocks) (p .subbands) (getD (left ∷ right ∷ []) c [])) else history
+
+-- both channels' histories
+unfoldable pub historiesAfter : SbcParameters → List Synthesis → List ℤ → List ℤ → List Synthesis
+historiesAfter p histories left right = build 2 (historyAfter p histories left right)

@@ -1,0 +1,26 @@
+-- How the code of both directions holds what belongs to subbands, for the contracts of its inner functions alone: a number for each subband in a
+-- row of eight, and the subband samples of a channel in an array of 128, eight places a block. Nothing public cites this.
+use Prim.Native.Nat.{ℕ, _+_, _*_, _/_, _%_}
+use mathlib.Core.Bool.{_&&_}
+use mathlib.Core.List.{List}
+use lib.Dec.{eqb, ltb}
+use lib.ListN.{getD}
+use lib.IntN.{ℤ, pos}
+use Rattle.laws.specs.Choice.{if_then_else_}
+use Rattle.laws.specs.Lists.{build}
+
+-- a row's entry
+abbrev pub entry : List ℕ → ℕ → ℕ
+entry row s = getD row s 0
+
+-- f below n, and 0 from n on
+abbrev pub below : ℕ → (ℕ → ℕ) → ℕ → ℕ
+below n f k = if ltb k n then f k else 0
+
+-- the sample of block b and subband s
+abbrev pub sampleIn : List ℤ → ℕ → ℕ → ℤ
+sampleIn xs b s = getD xs (8 * b + s) (pos 0)
+
+-- an array of samples with those of subband s replaced in its first n blocks
+unfoldable pub withSubband : ℕ → ℕ → (ℕ → ℤ) → List ℤ → List ℤ
+withSubband n s f xs = build 128 (λ k. if eqb (k % 8) s && ltb (k / 8) n then f (k / 8) else getD xs k (pos 0))
