@@ -1,4 +1,8 @@
 // Bits of a slice of bytes at a bit position, high bit first, by whole bytes.
+pub mod held;
+
+pub use held::BitReader;
+pub use held::BitWriter;
 ghost use mathlib.Core.Path.{_≡_};
 ghost use mathlib.Core.List.{_++_};
 ghost use Prim.Native.Nat.{_+_, _-_, _*_, _^_, _<_, _≤_, min};
