@@ -12,8 +12,8 @@ use Rattle.bits.specs.declared.Read.{Read}
 use Rattle.bits.specs.declared.Room.{Room}
 use Rattle.bits.specs.declared.Room.the-variants.{Enough, BufferTooSmall}
 use Rattle.bits.specs.declared.Written.{Written}
-use Rattle.bits.specs.declared.held.BitReader.{BitReader}
-use Rattle.bits.specs.declared.held.BitWriter.{BitWriter}
+use Rattle.bits.specs.declared.reader.BitReader.{BitReader}
+use Rattle.bits.specs.declared.writer.BitWriter.{BitWriter}
 
 bits-determined : (a b : Bits) → toldBits a ≡ toldBits b → a ≡ b
 unfolding toldBits

@@ -5,8 +5,8 @@ use mathlib.Core.List.{List}
 use denote.Ref.{RefT, now, at-last}
 use Rattle.laws.specs.Answers.{Told}
 use Rattle.bits.specs.Fields.{readAt, writeAt}
-use Rattle.bits.specs.declared.held.BitReader.{BitReader}
-use Rattle.bits.specs.declared.held.BitWriter.{BitWriter}
+use Rattle.bits.specs.declared.reader.BitReader.{BitReader}
+use Rattle.bits.specs.declared.writer.BitWriter.{BitWriter}
 
 -- a reader at the first bit
 unfoldable pub readerOver : RefT (List ℕ) → BitReader

@@ -1,8 +1,9 @@
 // Bits of a slice of bytes at a bit position, high bit first, by whole bytes.
-pub mod held;
+pub mod reader;
+pub mod writer;
 
-pub use held::BitReader;
-pub use held::BitWriter;
+pub use reader::BitReader;
+pub use writer::BitWriter;
 ghost use mathlib.Core.Path.{_≡_};
 ghost use mathlib.Core.List.{_++_};
 ghost use Prim.Native.Nat.{_+_, _-_, _*_, _^_, _<_, _≤_, min};
