@@ -6,3 +6,6 @@ pub mod RoundTrip
 pub mod Ends
 pub mod Answers
 pub mod Again
+pub mod Within
+pub mod LocalReader
+pub mod LocalWriter

@@ -1,8 +1,9 @@
 // A writer that holds its bytes and a position, thin over `write_at`, as the reader is over `read_at`.
 use crate::Room;
+use crate::Written;
 use crate::write_at;
 ghost use mathlib.Core.Path.{_≡_};
-ghost use Rattle.bits.specs.Fields.{toldRoom};
+ghost use Rattle.bits.specs.Fields.{toldRoom, toldWritten, writeAt};
 ghost use Rattle.bits.specs.Held.{writerOver, writeBy};
 
 // The bytes lent for a frame, and the position of the bit to be written next.
@@ -30,5 +31,20 @@ impl<'a> BitWriter<'a> {
         let written = write_at(&mut *self.bytes, at, value, count);
         self.position = written.position;
         written.room
+    }
+}
+
+// `write_at` through a writer in a local, for covered code, as `read_bits` is.
+pub fn write_bits(bytes: &mut [u8], position: usize, value: u32, count: u32) -> Written
+    ensures { λ r. ⌜ toldWritten r (now (bytes .exit)) ≡ writeAt (now (bytes .entry)) position value count ⌝ }
+{
+    let mut writer = BitWriter {
+        bytes: bytes,
+        position: position,
+    };
+    let room = writer.write(value, count);
+    Written {
+        room: room,
+        position: writer.position,
     }
 }
