@@ -1,4 +1,5 @@
--- `bits::reader::BitReader::new` meets its contract: a walk of its MIR, by hand. A `BitReader` is made of the slice passed and 0, in the result's local.
+-- `bits::reader::BitReader::new` meets its contract: a walk of its MIR, by hand. A `BitReader` is made of the slice passed and 0, in the
+-- result's local.
 -- A `&[u8]` is Copy, so what it owns is had twice: once for bytes at exit, and once inside the result, beside the facts of position.
 -- Assumes nothing.
 use mathlib.Core.Path.{_≡_, refl}

@@ -1,5 +1,8 @@
--- `bits::reader::BitReader::read` meets its contract: a walk of its MIR, by hand. The borrow of the struct is opened, `read_at` is called on the slice and the number that it holds, and the borrow is closed at the struct with the position that `read_at` returned; the bits are the result.
--- The struct is Copy: what it owns is had twice, one copy is kept for the exit, and of the other what bytes owns goes to the callee, beside the token of 'a, which comes back.
+-- `bits::reader::BitReader::read` meets its contract: a walk of its MIR, by hand. The borrow of the struct is opened, `read_at` is
+-- called on the slice and the number that it holds, and the borrow is closed at the struct with the position that `read_at` returned;
+-- the bits are the result.
+-- The struct is Copy: what it owns is had twice, one copy is kept for the exit, and of the other what bytes owns goes to the callee,
+-- beside the token of 'a, which comes back.
 -- Assumes nothing.
 use mathlib.Core.Path.{_≡_, refl, ap}
 use Prim.Native.Nat.{ℕ, _<_, _^_}

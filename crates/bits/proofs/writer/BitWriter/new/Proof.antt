@@ -1,5 +1,7 @@
--- `bits::writer::BitWriter::new` meets its contract: a walk of its MIR, by hand. The borrow of the slice goes into the result as it is, beside the number 0.
--- The parameter is spent: the result names its lifetime, so nothing is had of it at exit, and `bytes .entry` is all that the contract can say.
+-- `bits::writer::BitWriter::new` meets its contract: a walk of its MIR, by hand. The borrow of the slice goes into the result as it is,
+-- beside the number 0.
+-- The parameter is spent: the result names its lifetime, so nothing is had of it at exit, and `bytes .entry` is all that the contract
+-- can say.
 -- Assumes nothing.
 use mathlib.Core.Path.{_≡_, refl}
 use Prim.Native.Nat.{ℕ}

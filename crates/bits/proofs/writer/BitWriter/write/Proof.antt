@@ -1,4 +1,6 @@
--- `bits::writer::BitWriter::write` meets its contract: a walk of its MIR, by hand. The outer borrow is opened, which gives the struct's cell and what the struct owns; of that the slice is lent again to `write_at`, for a lifetime that is made for the call, and comes back (`Again.antt`); the number that `write_at` returned is stored in the cell; and the outer borrow is closed at the new record.
+-- `bits::writer::BitWriter::write` meets its contract: a walk of its MIR, by hand. The outer borrow is opened, which gives the struct's
+-- cell and what the struct owns; of that the slice is lent again to `write_at`, for a lifetime that is made for the call, and comes back
+-- (`Again.antt`); the number that `write_at` returned is stored in the cell; and the outer borrow is closed at the new record.
 -- All that the proof knows of `write_at` is that it meets its contract.
 -- Assumes nothing.
 use mathlib.Core.Path.{_≡_, refl, ap}
