@@ -4,6 +4,7 @@ use Prim.Native.Nat.{ℕ}
 use mathlib.Core.Path.{_≡_, refl, ap}
 use mathlib.Core.List.{List}
 use native.Mathlib.Omega.{arith}
+use Rattle.laws.specs.Answers.{Told}
 use Rattle.bits.specs.Fields.{toldBits, toldRead, toldRoom, toldWritten}
 use Rattle.bits.specs.declared.Bits.{Bits}
 use Rattle.bits.specs.declared.Bits.the-variants.{Value, Incomplete}
@@ -11,6 +12,8 @@ use Rattle.bits.specs.declared.Read.{Read}
 use Rattle.bits.specs.declared.Room.{Room}
 use Rattle.bits.specs.declared.Room.the-variants.{Enough, BufferTooSmall}
 use Rattle.bits.specs.declared.Written.{Written}
+use Rattle.bits.specs.declared.reader.BitReader.{BitReader}
+use Rattle.bits.specs.declared.writer.BitWriter.{BitWriter}
 
 bits-determined : (a b : Bits) → toldBits a ≡ toldBits b → a ≡ b
 unfolding toldBits
@@ -40,3 +43,10 @@ written-determined a b xs ys h =
     let room = room-determined (a .room) (b .room) (ap (λ r. r .answer) h) in
     let position = ap (λ r. r .position) h in
     (λ i. record { room = room i; position = position i }, ap (λ r. r .bytes) h)
+
+-- the same of the reader and of the writer after a call
+pub reader-determined : (a b : Bits) (r s : BitReader) → _≡_ {A = Told ℕ × BitReader} (toldBits a, r) (toldBits b, s) → (a ≡ b) × (r ≡ s)
+reader-determined a b r s h = (bits-determined a b (ap (λ p. p .0) h), ap (λ p. p .1) h)
+
+pub writer-determined : (a b : Room) (w x : BitWriter) → _≡_ {A = Told Unit × BitWriter} (toldRoom a, w) (toldRoom b, x) → (a ≡ b) × (w ≡ x)
+writer-determined a b w x h = (room-determined a b (ap (λ p. p .0) h), ap (λ p. p .1) h)
