@@ -1,4 +1,4 @@
--- `SbcDecoder::decode` meets its contract. The invariant: the whole call is the frames taken so far, and then the call from here.
+-- `SbcDecoder::decoded` meets its contract. The invariant: the whole call is the frames taken so far, and then the call from here.
 -- The measure is what is left of the input.
 -- Assumes nothing.
 use Prim.Native.Nat.{ℕ, _+_, _-_}
@@ -16,8 +16,8 @@ use Rattle.sbc.specs.Told.{toldOutcome, toldTurn, toldDecoded}
 use Rattle.sbc.specs.declared.Progress.{Progress}
 use Rattle.sbc.proofs.Turning.{turn-takes, Turning, start, found, back, length-back, turn, stops-none, stops-refused}
 use borrow.Author.Needs.{needs}
-use Rattle.sbc.proofs.SbcDecoder.decode.Statement.{statement}
-use Rattle.sbc.proofs.SbcDecoder.decode.Tie as tie
+use Rattle.sbc.proofs.SbcDecoder.decoded.Statement.{statement}
+use Rattle.sbc.proofs.SbcDecoder.decoded.Tie as tie
 
 abbrev Inv-loop : tie.InvT-loop
 Inv-loop input output₀ decoder₀ consumed₀ produced₀ output decoder consumed produced =
@@ -170,8 +170,8 @@ returns-2 c =
     ∙ stops-refused (t .inv) (errorNumber (c .before .before .outcome2 .given .0 .0))
     (sym (stepped k) ∙ ap toldOutcome (c .before .before .outcome2 .given .1))
 
-pub decode-spec : {M : Type 1} → statement M
-decode-spec =
+pub decoded-spec : {M : Type 1} → statement M
+decoded-spec =
     tie.close
     (tie.spec
     Inv-loop

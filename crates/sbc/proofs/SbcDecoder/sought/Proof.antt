@@ -1,10 +1,10 @@
--- `SbcDecoder::seek` meets its contract.
+-- `SbcDecoder::sought` meets its contract.
 -- Assumes nothing.
 use mathlib.Core.Path.{sym, ap, _∙_}
 use Rattle.sbc.specs.Seek.{seekAfter, seek}
 use borrow.Author.Needs.{needs}
-use Rattle.sbc.proofs.SbcDecoder.seek.Statement.{statement}
-use Rattle.sbc.proofs.SbcDecoder.seek.Tie as tie
+use Rattle.sbc.proofs.SbcDecoder.sought.Statement.{statement}
+use Rattle.sbc.proofs.SbcDecoder.sought.Tie as tie
 
 enum-told : tie.Need-enum-told
 enum-told c = search needs
@@ -30,5 +30,5 @@ returns-2 c =
     let start = c .before .before .before .before in
     c .seek-from .ensures ∙ sym (ap (λ last. seekAfter last (start .args .self) (start .args .position)) (c .before .before .last .given .1))
 
-pub seek-spec : {M : Type 1} → statement M
-seek-spec = tie.close (tie.spec enum-told seek-first-requires enum-known-last seek-from-requires returns returns-2)
+pub sought-spec : {M : Type 1} → statement M
+sought-spec = tie.close (tie.spec enum-told seek-first-requires enum-known-last seek-from-requires returns returns-2)

@@ -1,4 +1,4 @@
--- `SbcEncoder::encode` meets its contract.
+-- `SbcEncoder::encoded` meets its contract.
 -- Assumes nothing.
 use mathlib.Core.Path.{sym, ap, _∙_}
 use Rattle.sbc_parameters.specs.Parameters.{toldValidated}
@@ -7,8 +7,8 @@ use Rattle.sbc.specs.Encode.{encode}
 use Rattle.sbc.specs.Told.{toldEncoded}
 use Rattle.sbc.proofs.Seeking.{validated-accepted, validated-refused}
 use borrow.Author.Needs.{needs}
-use Rattle.sbc.proofs.SbcEncoder.encode.Statement.{statement}
-use Rattle.sbc.proofs.SbcEncoder.encode.Tie as tie
+use Rattle.sbc.proofs.SbcEncoder.encoded.Statement.{statement}
+use Rattle.sbc.proofs.SbcEncoder.encoded.Tie as tie
 
 validate-requires : tie.Need-validate-requires
 validate-requires c κs = search needs
@@ -39,8 +39,8 @@ returns-2 c =
     (sym (ap toldValidated (c .before .error .given .1)) ∙ c .before .before .before .validate .ensures) in
     rw (no .0, no .1)
 
-pub encode-spec : {M : Type 1} → statement M
-encode-spec =
+pub encoded-spec : {M : Type 1} → statement M
+encoded-spec =
     tie.close
     (tie.spec
     validate-requires
