@@ -1,5 +1,7 @@
 // The SBC and mSBC encoder and decoder: their states, what their calls give back, and the decoder's calls. The definitions of all calls stand
 // in specs/.
+mod lent;
+
 use laws::least;
 use sbc_filterbank::Synthesis;
 use sbc_frame::decode_frame;
