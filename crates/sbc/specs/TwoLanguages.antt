@@ -136,8 +136,8 @@ TwoLanguages =
     let start : State = record { encoder = e; decoder = newDecoder; stream = [] } in
     SameResults p c (run p start xs) (run p start ys)
 
--- ---- the same of the code: whatever its calls give, as far as the contracts of `SbcEncoder::new`, `SbcEncoder::encode`, `SbcDecoder::new`,
--- `SbcDecoder::finish` and `SbcDecoder::decode` tell, which are the equations below
+-- ---- the same of the code: whatever its calls give, as far as the contracts of `SbcEncoder::new`, `SbcEncoder::encoded`, `SbcDecoder::new`,
+-- `SbcDecoder::finished` and `SbcDecoder::decoded` tell, which are the equations below
 
 module _ (p : SbcParameters) where
   -- a call of the code: what it gave back, and its output after the call

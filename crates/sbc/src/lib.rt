@@ -1,5 +1,7 @@
 // The SBC and mSBC encoder and decoder: their states, what their calls give back, and the decoder's calls. The definitions of all calls stand
 // in specs/.
+mod lent;
+
 use laws::least;
 use sbc_decode_frame::decode_frame;
 use sbc_encode_frame::encode_frame;
@@ -169,7 +171,7 @@ impl SbcDecoder {
     }
 
     // A decoder as created.
-    pub fn reset(self) -> SbcDecoder
+    pub fn restarted(self) -> SbcDecoder
         ensures { λ r. ⌜ r ≡ reset self ⌝ }
     {
         SbcDecoder::new()
@@ -183,7 +185,7 @@ impl SbcDecoder {
     }
 
     // Says that the input has ended.
-    pub fn finish(self) -> SbcDecoder
+    pub fn finished(self) -> SbcDecoder
         ensures { λ r. ⌜ r ≡ finish self ⌝ }
     {
         let parameters = self.parameters;
@@ -198,7 +200,7 @@ impl SbcDecoder {
 
     // Decodes frames until no whole one is left, or one is refused: its refusal is given back where no frame was accepted before it, and the
     // progress otherwise.
-    pub fn decode(self, input: &[u8], output: &mut [i16]) -> DecodeResult
+    pub fn decoded(self, input: &[u8], output: &mut [i16]) -> DecodeResult
         ensures { λ r. ⌜ toldDecoded r (now (output .exit)) ≡ decode self (now (input .entry)) (now (output .entry)) ⌝ }
     {
         let mut decoder = self;
@@ -325,7 +327,7 @@ impl SbcDecoder {
 
     // Seeks to a position, counted in samples of one channel from the start of the audio. The offset is counted from the start of the stream,
     // as if every frame had the parameters of the last one; decoding resumes 9 blocks early, to fill the filterbank, and drops them.
-    pub fn seek(self, position: u64) -> Sought
+    pub fn sought(self, position: u64) -> Sought
         ensures { λ r. ⌜ toldSought r ≡ seek self position ⌝ }
     {
         let last = self.parameters;
@@ -345,7 +347,7 @@ impl SbcDecoder {
                     byte_offset: 0,
                     skip_frames: 0,
                 }),
-                decoder: self.reset(),
+                decoder: self.restarted(),
             };
         }
         Sought {
@@ -422,14 +424,14 @@ impl SbcEncoder {
     }
 
     // Silence again; the parameters stay.
-    pub fn reset(self) -> SbcEncoder
+    pub fn restarted(self) -> SbcEncoder
         ensures { λ r. ⌜ r ≡ resetEncoder self ⌝ }
     {
         silent_encoder(self.parameters)
     }
 
     // Encodes as many frames as both buffers hold. An output under one frame is BufferTooSmall, even with no input.
-    pub fn encode(self, input: &[i16], output: &mut [u8]) -> EncodeResult
+    pub fn encoded(self, input: &[i16], output: &mut [u8]) -> EncodeResult
         ensures { λ r. ⌜ toldEncoded r (now (output .exit)) ≡ encode self (now (input .entry)) (now (output .entry)) ⌝ }
     {
         let parameters = self.parameters;

@@ -60,7 +60,7 @@ impl Stream {
     // At the end of the input, what is held may still be a cut frame, which the decoder is asked once more.
     fn finished(mut self) -> Stream {
         let decoder = self.decoder;
-        let finishing = decoder.finish();
+        let finishing = decoder.finished();
         self.decoder = finishing;
         self.ended = true;
         self
@@ -106,7 +106,7 @@ impl Stream {
             return self.stopped();
         }
         let decoder = self.decoder;
-        let result = decoder.decode(&bytes[..held], samples);
+        let result = decoder.decoded(&bytes[..held], samples);
         let after = result.decoder;
         self.decoder = after;
         let answer = result.answer;

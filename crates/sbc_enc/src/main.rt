@@ -30,7 +30,7 @@ fn encode(encoder: SbcEncoder, raw: &[u8], samples: &mut [i16], bytes: &mut [u8]
     requires { ⌜ length (now raw) ≡ 2 * length (now samples) ⌝ }
 {
     pcm::read(raw, samples);
-    encoder.encode(samples, bytes)
+    encoder.encoded(samples, bytes)
 }
 
 fn encode_first(

@@ -197,7 +197,7 @@ fn run_encoder(encoder: SbcEncoder, raw: &[u8], bytes: &mut [u8], samples: &mut 
     requires { ⌜ length (now raw) ≡ 2 * length (now samples) ⌝ }
 {
     pcm::read(raw, samples);
-    let result = encoder.encode(samples, bytes);
+    let result = encoder.encoded(samples, bytes);
     let coded = result.answer;
     answer_encoded(coded, bytes);
     result.encoder
@@ -207,7 +207,7 @@ fn run_decoder(decoder: SbcDecoder, raw: &mut [u8], bytes: &[u8], samples: &mut 
     requires { ⌜ length (now raw) ≡ 2 * length (now samples) ⌝ }
 {
     pcm::read(raw, samples);
-    let result = decoder.decode(bytes, samples);
+    let result = decoder.decoded(bytes, samples);
     let coded = result.answer;
     answer_decoded(coded, samples, raw);
     result.decoder
@@ -360,7 +360,7 @@ impl Replay {
             return self.stopped();
         }
         let decoder = self.decoder;
-        let sought = decoder.seek(long_number(position));
+        let sought = decoder.sought(long_number(position));
         let outcome = sought.outcome;
         answer_sought(outcome);
         let decoder = sought.decoder;
@@ -384,19 +384,19 @@ impl Replay {
     fn finish(self) -> Replay {
         answer(&[0]);
         let decoder = self.decoder;
-        self.with_decoder(decoder.finish())
+        self.with_decoder(decoder.finished())
     }
 
     fn reset_decoder(self) -> Replay {
         answer(&[0]);
         let decoder = self.decoder;
-        self.with_decoder(decoder.reset())
+        self.with_decoder(decoder.restarted())
     }
 
     fn reset_encoder(self) -> Replay {
         answer(&[0]);
         let encoder = self.encoder;
-        self.with_encoder(encoder.reset())
+        self.with_encoder(encoder.restarted())
     }
 
     fn parameters(self) -> Replay {

@@ -6,16 +6,16 @@ use borrow.Author.Needs.{needs}
 use Rattle.sbc.proofs.SbcDecoder.seek_first.Statement.{statement}
 use Rattle.sbc.proofs.SbcDecoder.seek_first.Tie as tie
 
-reset-requires : tie.Need-reset-requires
-reset-requires c κs = search needs
+restarted-requires : tie.Need-restarted-requires
+restarted-requires c κs = search needs
 
 returns : tie.Need-returns
 unfolding toldSeek toldSought requestOf seekFirst
-returns c = rw (c .reset .ensures, c .before .if1 .taken)
+returns c = rw (c .restarted .ensures, c .before .if1 .taken)
 
 returns-2 : tie.Need-returns-2
 unfolding toldSeek toldSought requestOf seekFirst
 returns-2 c = rw (ne-eqb (c .before .args .position) 0 (c .if1 .left))
 
 pub seek-first-spec : {M : Type 1} → statement M
-seek-first-spec = tie.close (tie.spec reset-requires returns returns-2)
+seek-first-spec = tie.close (tie.spec restarted-requires returns returns-2)

@@ -12,14 +12,14 @@ stopped-requires c κs = search needs
 returns : tie.Need-returns
 returns c = search needs
 
-slice-reshare-prefix-decode : tie.Need-slice-reshare-prefix-decode
-slice-reshare-prefix-decode c = search needs
+slice-reshare-prefix-decoded : tie.Need-slice-reshare-prefix-decoded
+slice-reshare-prefix-decoded c = search needs
 
-slice-aggregate-decode : tie.Need-slice-aggregate-decode
-slice-aggregate-decode c = simp length-take (omega arith)
+slice-aggregate-decoded : tie.Need-slice-aggregate-decoded
+slice-aggregate-decoded c = simp length-take (omega arith)
 
-decode-requires : tie.Need-decode-requires
-decode-requires c κs = search needs
+decoded-requires : tie.Need-decoded-requires
+decoded-requires c κs = search needs
 
 enum-known-answer : tie.Need-enum-known-answer
 enum-known-answer c = search needs
@@ -72,9 +72,9 @@ next-spec =
     (tie.spec
     stopped-requires
     returns
-    slice-reshare-prefix-decode
-    slice-aggregate-decode
-    decode-requires
+    slice-reshare-prefix-decoded
+    slice-aggregate-decoded
+    decoded-requires
     enum-known-answer
     read-on-requires
     same-length
