@@ -13,3 +13,4 @@ pub mod Clamps
 pub mod Sums
 pub mod Arrays
 pub mod Linear
+pub mod Answers

@@ -93,3 +93,8 @@ module _ {ℓ} {A : Type ℓ} where
           → (r : List A) × (drop (total i w) ((collect n f ++ f n) ++ rest) ≡ f i ++ r)
       go rec (inl e) = (rest, rw (e, append-assoc) (drop-at (collect n f) (f n ++ rest) (total n w) (length-collect n f w h)))
       go rec (inr l) = ((rec l) .0, rw append-assoc ((rec l) .1))
+
+-- ---- no elements
+pub nil-of-length {ℓ} : {A : Type ℓ} (l : List A) → length l ≡ 0 → l ≡ []
+nil-of-length [] e = refl
+nil-of-length (x ∷ l) e = absurd (omega arith)

@@ -11,12 +11,12 @@ use Rattle.sbc_parameters.specs.declared.SbcChannelMode.the-variants.{DualChann
 use Rattle.sbc_parameters.specs.Parameters.{accepted}
 use Rattle.sbc_parameters.specs.Sizes.{frameLength, frameSamples}
 use Rattle.sbc_frame.specs.Fields.{Fields}
-use Rattle.sbc.specs.Answers.{wholeFrames}
-use Rattle.sbc.specs.Encode.{packAll, encode}
-use Rattle.sbc.specs.Decode.{decode}
+use Rattle.codec.specs.Answers.{wholeFrames}
+use Rattle.sbc_encoder.specs.Encode.{packAll, encode}
+use Rattle.sbc_decoder.specs.Decode.{decode}
 use Rattle.sbc.specs.TwoLanguages.{Action, State, After, afterEncode, afterDecode, after, SamePlaces, SameResult}
 use Rattle.sbc.specs.TwoLanguages.{Alike, both-encode, both-finish, both-decode}
-use Rattle.sbc.specs.declared.SbcDecoder.{SbcDecoder}
+use Rattle.sbc_decoder.specs.declared.SbcDecoder.{SbcDecoder}
 use Rattle.sbc.proofs.Streams.{longer, piece-from, SameFrames, same-append, same-drop, pieces-length}
 use Rattle.sbc.proofs.Encoded.{SameEncoder, encode-same}
 use Rattle.sbc.proofs.Heard.{SameDecoder, finish-same, SameDecoded, decode-same}

@@ -4,7 +4,7 @@
 use Prim.Native.Nat.{ℕ, zero, suc, _+_, _*_, _%_, _≤_, _<_}
 use mathlib.Core.Path.{_≡_, refl, sym, ap, ap₂, _∙_, subst, subst₂}
 use mathlib.Core.Bool.{Bool, true, false}
-use mathlib.Core.List.{List, [], _∷_}
+use mathlib.Core.List.{List, _∷_}
 use native.Mathlib.Nat.{zero-mul}
 use native.Mathlib.Omega.{arith}
 use lib.Dec.{ltb}
@@ -22,34 +22,14 @@ use Rattle.sbc_frame.specs.Fields.{Fields}
 use Rattle.sbc_frame.specs.Channels.{noAnalysis}
 use Rattle.sbc_frame.specs.Encoding.{encodeFields, analysisHistories}
 use Rattle.sbc_frame.proofs.Coding.{SameAt, encode-fits, two-channels, fields-same, analysis-same}
-use Rattle.sbc.specs.Answers.{progressOf, wholeFrames}
-use Rattle.sbc.specs.Encode.{histories, withHistories, nextEncoder, encoderAfter, encodedFrames, packAll, Encoded, encodeFrames, encode}
+use Rattle.codec.specs.Answers.{progressOf, wholeFrames}
+use Rattle.sbc_encoder.specs.Encode.{histories, withHistories, nextEncoder, encoderAfter, encodedFrames, packAll, Encoded, encodeFrames, encode}
+use Rattle.sbc_encoder.proofs.Writing.{histories-next, length-frames}
 use Rattle.sbc.specs.TwoLanguages.{SamePlaces}
-use Rattle.sbc.specs.declared.Progress.{Progress}
-use Rattle.sbc.specs.declared.SbcEncoder.{SbcEncoder}
-use Rattle.sbc.proofs.Streams.{none-out, length-packAll, SameFrames, no-frames, one-frame}
-
--- ---- the encoder
--- the histories that were set
-pub histories-with : (e : SbcEncoder) (hs : List (List ℤ)) → histories (withHistories e hs) ≡ hs
-unfolding histories withHistories
-histories-with e [] = refl
-histories-with e (h ∷ hs) = ap (λ (l : List (List ℤ)). h ∷ l) (histories-with e hs)
-
--- the histories after a frame
-pub histories-next : (e : SbcEncoder) (pcm : List ℤ) → histories (nextEncoder e pcm) ≡ analysisHistories (e .parameters) (histories e) pcm
-unfolding nextEncoder
-histories-next e pcm = histories-with e (analysisHistories (e .parameters) (histories e) pcm)
-
--- n frames are n
-pub frames-count : (n : ℕ) (e : SbcEncoder) (pcm : List ℤ) → length (encodedFrames n e pcm) ≡ n
-unfolding encodedFrames
-frames-count zero e pcm = refl
-frames-count (suc n) e pcm = ap suc (frames-count n (nextEncoder e pcm) (drop (frameSamples (e .parameters)) pcm))
-
--- they are as long as n frames
-pub length-frames : (n : ℕ) (e : SbcEncoder) (pcm : List ℤ) (p : SbcParameters) → length (packAll p (encodedFrames n e pcm)) ≡ n * frameLength p
-length-frames n e pcm p = length-packAll p (encodedFrames n e pcm) ∙ ap (λ k. k * frameLength p) (frames-count n e pcm)
+use Rattle.codec.specs.declared.Progress.{Progress}
+use Rattle.sbc_encoder.specs.declared.SbcEncoder.{SbcEncoder}
+use Rattle.codec.proofs.Fitting.{none-out}
+use Rattle.sbc.proofs.Streams.{SameFrames, no-frames, one-frame}
 
 -- ---- the call
 -- what it returns goes by the lengths

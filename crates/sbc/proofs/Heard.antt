@@ -20,13 +20,14 @@ use Rattle.sbc_frame.specs.Fields.{Fields, WellFormed}
 use Rattle.sbc_frame.specs.Channels.{noSynthesis}
 use Rattle.sbc_frame.specs.Decoding.{decodeFields}
 use Rattle.sbc_frame.proofs.Coding.{SameFields, SameAt, no-flags, length-decoded, synthesis-same, output-same}
-use Rattle.sbc.specs.Answers.{progressOf, wholeFrames}
-use Rattle.sbc.specs.Encode.{packAll}
-use Rattle.sbc.specs.Decode.{cleared, withParameters, withSynthesis, withSkip, finish, withFinishing, sameSubbands, startHistories, nextDecoder}
-use Rattle.sbc.specs.Decode.{answerOf, Decoded, decode}
+use Rattle.codec.specs.Answers.{progressOf, wholeFrames}
+use Rattle.sbc_encoder.specs.Encode.{packAll}
+use Rattle.sbc_decoder.specs.Decode.{cleared, withParameters, withSynthesis, withSkip, finish, withFinishing, sameSubbands, startHistories, nextDecoder}
+use Rattle.sbc_decoder.specs.Decode.{answerOf, Decoded, decode}
 use Rattle.sbc.specs.TwoLanguages.{SamePlaces}
-use Rattle.sbc.specs.declared.SbcDecoder.{SbcDecoder}
-use Rattle.sbc.proofs.Streams.{nil-of-length, SameFrames, no-frames, one-frame, same-take, same-length, fit-left, fit-right, pieces-length}
+use Rattle.sbc_decoder.specs.declared.SbcDecoder.{SbcDecoder}
+use Rattle.laws.proofs.Lists.{nil-of-length}
+use Rattle.sbc.proofs.Streams.{SameFrames, no-frames, one-frame, same-take, same-length, fit-left, fit-right, pieces-length}
 use Rattle.sbc.proofs.Encoded.{frame-even}
 use Rattle.sbc.proofs.Played.{decoderAfter, samplesOf, endingFor, played, still-unskipped, decode-played, piece-frames, length-first}
 

@@ -2,11 +2,7 @@
 pub mod Streams
 pub mod Encoded
 pub mod Looking
-pub mod Answering
-pub mod Taking
-pub mod Turning
-pub mod Writing
-pub mod Framing
+pub mod Accepted
 pub mod Refusals
 pub mod NextCall
 pub mod Untouched
@@ -15,4 +11,3 @@ pub mod Heard
 pub mod Agreement
 pub mod TwoLanguages
 pub mod Runs
-pub mod Seeking

@@ -21,8 +21,8 @@ use Rattle.sbc_frame.specs.Fields.{Fields, WellFormed}
 use Rattle.sbc_frame.specs.Layout.{pack, unpack}
 use Rattle.sbc_frame.proofs.Written.{checksum-pack, parse-pack}
 use Rattle.sbc_frame.proofs.Reading.{unpack-pack}
-use Rattle.sbc.specs.Decode.{cut, whole, lookBehind, look, refused, play, unchanged, shortStep, turnAt, decodeNext}
-use Rattle.sbc.specs.declared.SbcDecoder.{SbcDecoder}
+use Rattle.sbc_decoder.specs.Decode.{cut, whole, lookBehind, look, refused, play, unchanged, shortStep, turnAt, decodeNext}
+use Rattle.sbc_decoder.specs.declared.SbcDecoder.{SbcDecoder}
 
 -- ---- what is seen
 -- under three bytes no frame is whole

@@ -17,15 +17,15 @@ use Rattle.sbc_parameters.specs.Parameters.{accepted}
 use Rattle.sbc_parameters.specs.Sizes.{frameLength, frameSamples}
 use Rattle.sbc_parameters.proofs.Accepted.{frame-length-range, frame-samples-range}
 use Rattle.sbc_frame.specs.Layout.{unpack}
-use Rattle.sbc.specs.Answers.{progressOf, addProgress, wholeFrames}
-use Rattle.sbc.specs.Encode.{Encoded, encodeFrames, encode, encoderAfter, encodedFrames, packAll}
-use Rattle.sbc.specs.Decode.{nextOutput, play, Turns, decodeAll, answerOf, decode}
-use Rattle.sbc.specs.declared.Progress.{Progress}
-use Rattle.sbc.specs.declared.SbcEncoder.{SbcEncoder}
-use Rattle.sbc.specs.declared.SbcDecoder.{SbcDecoder}
-use Rattle.sbc.proofs.Answering.{gives-same, gives-refuses}
-use Rattle.sbc.proofs.Taking.{kept, length-next, drop-both, stopped, decode-induction}
-use Rattle.sbc.proofs.Writing.{frames, encode-cases, parameters-after, frames-untouched}
+use Rattle.codec.specs.Answers.{progressOf, addProgress, wholeFrames}
+use Rattle.sbc_encoder.specs.Encode.{Encoded, encodeFrames, encode, encoderAfter, encodedFrames, packAll}
+use Rattle.sbc_decoder.specs.Decode.{nextOutput, play, Turns, decodeAll, answerOf, decode}
+use Rattle.codec.specs.declared.Progress.{Progress}
+use Rattle.sbc_encoder.specs.declared.SbcEncoder.{SbcEncoder}
+use Rattle.sbc_decoder.specs.declared.SbcDecoder.{SbcDecoder}
+use Rattle.laws.proofs.Answers.{gives-same, gives-refuses}
+use Rattle.sbc_decoder.proofs.Taking.{kept, length-next, drop-both, stopped, decode-induction}
+use Rattle.sbc_encoder.proofs.Writing.{frames, encode-cases, parameters-after, frames-untouched}
 
 -- ---- decode
 

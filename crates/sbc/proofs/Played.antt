@@ -21,13 +21,14 @@ use Rattle.sbc_parameters.proofs.Accepted.{frame-length-range, frame-samples-ra
 use Rattle.sbc_frame.specs.Fields.{Fields, WellFormed}
 use Rattle.sbc_frame.specs.Decoding.{decodeFields}
 use Rattle.sbc_frame.proofs.Coding.{length-decoded}
-use Rattle.sbc.specs.Answers.{progressOf, addProgress, wholeFrames}
-use Rattle.sbc.specs.Encode.{packAll}
-use Rattle.sbc.specs.Decode.{cut, look, startHistories, dropped, nextDecoder, nextOutput, Step, none-whole, refused, taken, play, unchanged}
-use Rattle.sbc.specs.Decode.{withParameters, withSynthesis, withSkip, shortStep, decodeNext, Turns, afterStep, decodeTurns, decodeAll}
-use Rattle.sbc.specs.declared.SbcDecoder.{SbcDecoder}
-use Rattle.sbc.proofs.Streams.{none-in, none-out, one-in, fits-in, length-packAll, first-part, first-frame, piece-rest, rest-length}
-use Rattle.sbc.proofs.Streams.{AllFit, none-fit, one-fits}
+use Rattle.codec.specs.Answers.{progressOf, addProgress, wholeFrames}
+use Rattle.sbc_encoder.specs.Encode.{packAll}
+use Rattle.sbc_decoder.specs.Decode.{cut, look, startHistories, dropped, nextDecoder, nextOutput, Step, none-whole, refused, taken, play, unchanged}
+use Rattle.sbc_decoder.specs.Decode.{withParameters, withSynthesis, withSkip, shortStep, decodeNext, Turns, afterStep, decodeTurns, decodeAll}
+use Rattle.sbc_decoder.specs.declared.SbcDecoder.{SbcDecoder}
+use Rattle.codec.proofs.Fitting.{none-in, none-out, one-in, fits-in}
+use Rattle.sbc_encoder.proofs.Writing.{length-packAll}
+use Rattle.sbc.proofs.Streams.{first-part, first-frame, piece-rest, rest-length, AllFit, none-fit, one-fits}
 use Rattle.sbc.proofs.Looking.{look-short, look-cut, look-whole, header-pack, fields-whole, turn-cut, turn-full, turn-whole}
 
 -- ---- frames played one after the other

@@ -6,14 +6,15 @@ use mathlib.Core.List.{List}
 use native.Mathlib.Omega.{arith}
 use lib.IntN.{ℤ}
 use Rattle.laws.specs.Answers.{refuses}
-use Rattle.sbc.specs.Answers.{progressOf, addProgress}
-use Rattle.sbc.specs.Encode.{encodeFrames, encode}
-use Rattle.sbc.specs.Decode.{decodeAll, decode}
-use Rattle.sbc.specs.declared.SbcEncoder.{SbcEncoder}
-use Rattle.sbc.specs.declared.SbcDecoder.{SbcDecoder}
-use Rattle.sbc.proofs.Answering.{gives-refuses, refused-none}
-use Rattle.sbc.proofs.Taking.{length-some, decode-induction}
-use Rattle.sbc.proofs.Writing.{encode-cases}
+use Rattle.codec.specs.Answers.{progressOf, addProgress}
+use Rattle.sbc_encoder.specs.Encode.{encodeFrames, encode}
+use Rattle.sbc_decoder.specs.Decode.{decodeAll, decode}
+use Rattle.sbc_encoder.specs.declared.SbcEncoder.{SbcEncoder}
+use Rattle.sbc_decoder.specs.declared.SbcDecoder.{SbcDecoder}
+use Rattle.laws.proofs.Answers.{gives-refuses}
+use Rattle.sbc_decoder.proofs.Answering.{refused-none}
+use Rattle.sbc_decoder.proofs.Taking.{length-some, decode-induction}
+use Rattle.sbc_encoder.proofs.Writing.{encode-cases}
 
 -- ---- decode
 

@@ -19,17 +19,18 @@ use Rattle.sbc_parameters.specs.Sizes.{frameLength, frameSamples}
 use Rattle.sbc_parameters.proofs.Accepted.{frame-length-range}
 use Rattle.sbc_frame.specs.Fields.{Fields}
 use Rattle.sbc_frame.proofs.Coding.{encode-fits}
-use Rattle.sbc.specs.Answers.{progressOf, wholeFrames}
-use Rattle.sbc.specs.Encode.{histories, withHistories, encoderOf, newEncoder, nextEncoder, encoderAfter, encodedFrames, packAll, encode}
-use Rattle.sbc.specs.Decode.{newDecoder, finish, withFinishing, nextDecoder, Step, none-whole, refused, taken, decodeAll, answerOf, decode}
+use Rattle.codec.specs.Answers.{progressOf, wholeFrames}
+use Rattle.sbc_encoder.specs.Encode.{histories, withHistories, encoderOf, newEncoder, nextEncoder, encoderAfter, encodedFrames, packAll, encode}
+use Rattle.sbc_decoder.specs.Decode.{newDecoder, finish, withFinishing, nextDecoder, Step, none-whole, refused, taken, decodeAll, answerOf, decode}
 use Rattle.sbc.specs.TwoLanguages.{Action, encodes, finishes, decodes, State, Result, After, afterEncode, afterDecode, after, run}
-use Rattle.sbc.specs.declared.Progress.{Progress}
-use Rattle.sbc.specs.declared.SbcEncoder.{SbcEncoder}
-use Rattle.sbc.specs.declared.SbcDecoder.{SbcDecoder}
-use Rattle.sbc.proofs.Streams.{none-out, longer, piece-from, AllFit, none-fit, one-fits, fit-append, fit-drop}
+use Rattle.codec.specs.declared.Progress.{Progress}
+use Rattle.sbc_encoder.specs.declared.SbcEncoder.{SbcEncoder}
+use Rattle.sbc_decoder.specs.declared.SbcDecoder.{SbcDecoder}
+use Rattle.codec.proofs.Fitting.{none-out}
+use Rattle.sbc.proofs.Streams.{longer, piece-from, AllFit, none-fit, one-fits, fit-append, fit-drop}
 use Rattle.sbc.proofs.Encoded.{answerFor, Call, encode-call}
 use Rattle.sbc.proofs.Played.{decoderAfter, endingFor, played, still-unskipped, decode-played}
-use Rattle.sbc.proofs.Taking.{length-decode}
+use Rattle.sbc_decoder.proofs.Taking.{length-decode}
 use Rattle.sbc.proofs.TwoLanguages.{new-encoder}
 
 -- ---- what a run's calls give

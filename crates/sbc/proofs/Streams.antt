@@ -1,12 +1,12 @@
--- Written frames end to end: how many fit, the length of a stream, a piece of it, and two streams that are the same in one channel.
+-- Written frames end to end: a piece of the stream, and two streams that are the same in one channel.
 -- Assumes nothing.
-use Prim.Native.Nat.{ℕ, zero, suc, _+_, _-_, _*_, _/_, _≤_, _<_, min}
+use Prim.Native.Nat.{ℕ, zero, suc, _+_, _-_, _*_, _≤_, min}
 use mathlib.Core.Path.{_≡_, refl, sym, ap, ap₂, _∙_}
 use mathlib.Core.List.{List, [], _∷_, _++_, append-assoc}
-use native.Mathlib.Nat.{zero-mul, suc-mul, zero-min, min-zero, div-eq-of-lt, div-eq-sub-div, div-mul-le-self, mul-le-mul-right}
-use native.Mathlib.Nat.{sub-zero, zero-sub, suc-sub-suc, le-trans}
+use native.Mathlib.Nat.{zero-mul, suc-mul}
+use native.Mathlib.Nat.{sub-zero, zero-sub, suc-sub-suc}
 use native.Mathlib.Omega.{arith}
-use lib.ListN.{length, take, drop, length-append, length-take, length-drop}
+use lib.ListN.{length, take, drop, length-take, length-drop}
 use lib.Seq.{take-take, take-nil, take-append-le, take-all, drop-at, drop-drop}
 use Rattle.sbc_parameters.specs.declared.SbcParameters.{SbcParameters}
 use Rattle.sbc_parameters.specs.Sizes.{frameLength}
@@ -14,45 +14,10 @@ use Rattle.sbc_frame.specs.Fields.{Fields, WellFormed}
 use Rattle.sbc_frame.specs.Layout.{pack}
 use Rattle.sbc_frame.proofs.Written.{length-pack}
 use Rattle.sbc_frame.proofs.Coding.{SameFields}
-use Rattle.sbc.specs.Answers.{wholeFrames}
-use Rattle.sbc.specs.Encode.{packAll}
-
--- ---- how many frames fit
-module _ (i l o s : ℕ) where
-  -- none in an input under one frame
-  pub none-in : i < l → wholeFrames i l o s ≡ 0
-  unfolding wholeFrames
-  none-in h = rw (div-eq-of-lt h) (zero-min _)
-
-  -- none in an output under one frame
-  pub none-out : o < s → wholeFrames i l o s ≡ 0
-  unfolding wholeFrames
-  none-out h = rw (div-eq-of-lt h) (min-zero _)
-
-  -- one, and as many as fit behind it
-  pub one-in : 0 < l → 0 < s → l ≤ i → s ≤ o → wholeFrames i l o s ≡ suc (wholeFrames (i - l) l (o - s) s)
-  unfolding wholeFrames
-  one-in hl hs hi ho =
-      let ei : i / l ≡ (i - l) / l + 1 = div-eq-sub-div hl hi in
-      let eo : o / s ≡ (o - s) / s + 1 = div-eq-sub-div hs ho in
-      omega arith
-
-  -- they fit into the input
-  pub fits-in : wholeFrames i l o s * l ≤ i
-  unfolding wholeFrames
-  fits-in = le-trans (mul-le-mul-right l (omega arith)) (div-mul-le-self i l)
-
-  -- and into the output
-  pub fits-out : wholeFrames i l o s * s ≤ o
-  unfolding wholeFrames
-  fits-out = le-trans (mul-le-mul-right s (omega arith)) (div-mul-le-self o s)
+use Rattle.sbc_encoder.specs.Encode.{packAll}
+use Rattle.sbc_encoder.proofs.Writing.{length-packAll}
 
 -- ---- lists
--- no elements
-pub nil-of-length {ℓ} : {A : Type ℓ} (l : List A) → length l ≡ 0 → l ≡ []
-nil-of-length [] e = refl
-nil-of-length (x ∷ l) e = absurd (omega arith)
-
 drop-nil {ℓ} : {A : Type ℓ} (n : ℕ) → drop {A = A} n [] ≡ []
 drop-nil zero = refl
 drop-nil (suc n) = refl
@@ -65,13 +30,6 @@ drop-take (suc n) (suc m) (x ∷ l) = drop-take n m l ∙ ap (λ k. take k (drop
 
 -- ---- frames end to end
 module _ (p : SbcParameters) where
-  -- as long as all their frames
-  pub length-packAll : (fs : List Fields) → length (packAll p fs) ≡ length fs * frameLength p
-  unfolding packAll
-  length-packAll [] = sym (zero-mul (frameLength p))
-  length-packAll (f ∷ fs) =
-      length-append (pack p f) (packAll p fs) ∙ omega (arith, length-pack p f, length-packAll fs, suc-mul (length fs) (frameLength p))
-
   -- one list of frames behind another
   pub packAll-append : (fs gs : List Fields) → packAll p (fs ++ gs) ≡ packAll p fs ++ packAll p gs
   unfolding packAll

@@ -9,12 +9,12 @@ use Rattle.laws.specs.Answers.{gives, refuses}
 use Rattle.sbc_parameters.specs.declared.SbcParameters.{SbcParameters}
 use Rattle.sbc_parameters.specs.declared.SbcChannelMode.the-variants.{DualChannel}
 use Rattle.sbc_parameters.specs.Parameters.{accepted}
-use Rattle.sbc.specs.Encode.{encoderOf, newEncoder, packAll}
-use Rattle.sbc.specs.Decode.{newDecoder}
+use Rattle.sbc_encoder.specs.Encode.{encoderOf, newEncoder, packAll}
+use Rattle.sbc_decoder.specs.Decode.{newDecoder}
 use Rattle.sbc.specs.TwoLanguages.{Action, State, Result, After, encodedAfter, finishedAfter, decodedAfter, afterEncode, afterDecode, after, run, AllAlike, SameResults, TwoLanguages, Called, encode-called, finish-called, decode-called, CodeRun, CodeTwoLanguages}
-use Rattle.sbc.specs.declared.SbcEncoder.{SbcEncoder}
-use Rattle.sbc.specs.declared.SbcDecoder.{SbcDecoder}
-use Rattle.sbc.proofs.Answering.{gives-refuses}
+use Rattle.sbc_encoder.specs.declared.SbcEncoder.{SbcEncoder}
+use Rattle.sbc_decoder.specs.declared.SbcDecoder.{SbcDecoder}
+use Rattle.laws.proofs.Answers.{gives-refuses}
 use Rattle.sbc.proofs.Streams.{no-frames}
 use Rattle.sbc.proofs.Agreement.{Agree, action-keeps}
 

@@ -13,12 +13,12 @@ use Rattle.sbc_parameters.specs.Parameters.{channels}
 use Rattle.sbc_parameters.specs.Sizes.{frameLength, frameSamples}
 use Rattle.sbc_parameters.proofs.Accepted.{frame-samples-range}
 use Rattle.sbc_frame.specs.Layout.{unpack}
-use Rattle.sbc.specs.Answers.{progressOf, addProgress}
-use Rattle.sbc.specs.Decode.{withParameters, withSynthesis, withSkip, look, dropped, nextDecoder, nextOutput, unchanged, play, Turns, afterStep, decodeTurns, decodeAll, answerOf, decode, places, reachAfter, reachTurns, reach}
-use Rattle.sbc.specs.declared.Progress.{Progress}
-use Rattle.sbc.specs.declared.SbcDecoder.{SbcDecoder}
-use Rattle.sbc.proofs.Answering.{given-progress}
-use Rattle.sbc.proofs.Taking.{turn-pairs, turn-cases, kept, gone-fits, take-next, length-next, beyond-next, drop-both}
+use Rattle.codec.specs.Answers.{progressOf, addProgress}
+use Rattle.sbc_decoder.specs.Decode.{withParameters, withSynthesis, withSkip, look, dropped, nextDecoder, nextOutput, unchanged, play, Turns, afterStep, decodeTurns, decodeAll, answerOf, decode, places, reachAfter, reachTurns, reach}
+use Rattle.codec.specs.declared.Progress.{Progress}
+use Rattle.sbc_decoder.specs.declared.SbcDecoder.{SbcDecoder}
+use Rattle.sbc_decoder.proofs.Answering.{given-progress}
+use Rattle.sbc_decoder.proofs.Taking.{turn-pairs, turn-cases, kept, gone-fits, take-next, length-next, beyond-next, drop-both}
 
 -- ---- the places that a call writes
 

@@ -1,6 +1,1 @@
-pub mod Answers
-pub mod Encode
-pub mod Decode
-pub mod Told
-pub mod Seek
 pub mod TwoLanguages

@@ -11,16 +11,17 @@ use Rattle.sbc_parameters.specs.Parameters.{accepted}
 use Rattle.sbc_parameters.specs.Sizes.{frameLength, frameSamples}
 use Rattle.sbc_parameters.specs.declared.SbcParameters.{SbcParameters}
 use Rattle.sbc_parameters.specs.declared.SbcChannelMode.the-variants.{DualChannel}
-use Rattle.sbc.specs.Answers.{progressOf, wholeFrames}
-use Rattle.sbc.specs.Encode.{newEncoder, Encoded, encode}
-use Rattle.sbc.specs.Decode.{newDecoder, finish, Decoded, decode}
-use Rattle.sbc.specs.Told.{toldCreated, toldEncoded, toldDecoded}
-use Rattle.sbc.specs.declared.Progress.{Progress}
-use Rattle.sbc.specs.declared.Created.{Created}
-use Rattle.sbc.specs.declared.EncodeResult.{EncodeResult}
-use Rattle.sbc.specs.declared.DecodeResult.{DecodeResult}
-use Rattle.sbc.specs.declared.SbcEncoder.{SbcEncoder}
-use Rattle.sbc.specs.declared.SbcDecoder.{SbcDecoder}
+use Rattle.codec.specs.Answers.{progressOf, wholeFrames}
+use Rattle.sbc_encoder.specs.Encode.{newEncoder, Encoded, encode}
+use Rattle.sbc_decoder.specs.Decode.{newDecoder, finish, Decoded, decode}
+use Rattle.sbc_encoder.specs.Told.{toldCreated, toldEncoded}
+use Rattle.sbc_decoder.specs.Told.{toldDecoded}
+use Rattle.codec.specs.declared.Progress.{Progress}
+use Rattle.sbc_encoder.specs.declared.Created.{Created}
+use Rattle.sbc_encoder.specs.declared.EncodeResult.{EncodeResult}
+use Rattle.sbc_decoder.specs.declared.DecodeResult.{DecodeResult}
+use Rattle.sbc_encoder.specs.declared.SbcEncoder.{SbcEncoder}
+use Rattle.sbc_decoder.specs.declared.SbcDecoder.{SbcDecoder}
 
 -- ---- a run: a list of actions, in any order
 

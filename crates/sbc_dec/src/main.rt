@@ -2,10 +2,10 @@
 //
 // A refusal ends the program, after the samples that were decoded before it, with its number on standard error; a last frame that is cut
 // is number 1.
+use codec::Coded;
+use codec::Progress;
 use libc::STDOUT_FILENO;
-use sbc::Coded;
-use sbc::Progress;
-use sbc::SbcDecoder;
+use sbc_decoder::SbcDecoder;
 use sbc_parameters::Error;
 ghost use mathlib.Core.Path.{_≡_};
 ghost use Prim.Native.Nat.{_*_};

@@ -5,11 +5,11 @@
 // program, with its number on standard error; settings that are refused, or not understood, are number 3.
 mod settings;
 
+use codec::Coded;
+use codec::Progress;
 use libc::STDOUT_FILENO;
-use sbc::Coded;
-use sbc::EncodeResult;
-use sbc::Progress;
-use sbc::SbcEncoder;
+use sbc_encoder::EncodeResult;
+use sbc_encoder::SbcEncoder;
 use sbc_parameters::Error;
 use sbc_parameters::Parsed;
 use sbc_parameters::SbcParameters;

@@ -1,12 +1,17 @@
--- What is told of an answer determines the answer: a contract on what is told fixes what is returned.
+-- What is told of an answer determines the answer: a contract on what is told fixes what is returned. And what the answer of `validate` says of a set.
 -- Assumes nothing.
 use Prim.Native.Nat.{ℕ, _-_}
 use mathlib.Core.Path.{_≡_, refl, sym, ap, _∙_}
+use mathlib.Core.Bool.{true, false}
 use mathlib.Core.List.{List, [], _∷_}
 use native.Mathlib.Omega.{arith}
 use lib.ListN.{getD}
 use Rattle.sbc_parameters.specs.Errors.{errorNumber}
-use Rattle.sbc_parameters.specs.Parameters.{toldValidated}
+use Rattle.laws.specs.Answers.{Told, gives, refuses}
+use Rattle.laws.proofs.Answers.{gives-refuses, refuses-same}
+use Rattle.laws.proofs.Cases.{by-test}
+use Rattle.sbc_parameters.specs.Parameters.{accepted, toldValidated, validate}
+use Rattle.sbc_parameters.specs.declared.SbcParameters.{SbcParameters}
 use Rattle.sbc_parameters.specs.Header.{toldParsed}
 use Rattle.sbc_parameters.specs.declared.Error.{Error}
 use Rattle.sbc_parameters.specs.declared.Error.the-variants.{Incomplete, InvalidHeader, InvalidParameter, InvalidData, BufferTooSmall}
@@ -47,3 +52,18 @@ validated-determined (validated.Refused e) validated.Accepted h = let z : _≡_ 
 validated-determined (validated.Refused e) (validated.Refused f) h =
     let n : errorNumber e ≡ errorNumber f = cc in
     ap validated.Refused (error-determined e f n)
+
+-- ---- validate
+
+pub validated-accepted : (p : SbcParameters) → toldValidated validated.Accepted ≡ validate p → accepted p ≡ true
+unfolding toldValidated validate
+validated-accepted p =
+    by-test (λ (t : Told Unit). gives tt ≡ t → accepted p ≡ true) (accepted p) (gives tt) (refuses 3) (λ a _. a)
+    (λ _ h. absurd (gives-refuses tt 3 h))
+
+pub validated-refused : (p : SbcParameters) (e : Error) → toldValidated (validated.Refused e) ≡ validate p → (accepted p ≡ false) × (errorNumber e ≡ 3)
+unfolding toldValidated validate
+validated-refused p e =
+    by-test (λ (t : Told Unit). refuses (errorNumber e) ≡ t → (accepted p ≡ false) × (errorNumber e ≡ 3)) (accepted p) (gives tt) (refuses 3)
+    (λ _ h. absurd (gives-refuses tt (errorNumber e) (sym h)))
+    (λ a h. (a, refuses-same {A = Unit} (errorNumber e) 3 h))

@@ -13,18 +13,18 @@
 // The program ends at the end of its input, at any other byte, at a record that is cut, and at a buffer of more than 65,536 bytes or samples.
 mod numbers;
 
+use codec::Coded;
 use libc::STDIN_FILENO;
 use libc::STDOUT_FILENO;
 use numbers::long_bytes;
 use numbers::long_number;
 use numbers::number;
 use numbers::number_bytes;
-use sbc::Coded;
-use sbc::LastParameters;
-use sbc::SbcDecoder;
-use sbc::SbcEncoder;
-use sbc::SeekOutcome;
 use sbc_allocation::allocate;
+use sbc_decoder::LastParameters;
+use sbc_decoder::SbcDecoder;
+use sbc_decoder::SeekOutcome;
+use sbc_encoder::SbcEncoder;
 use sbc_parameters::Parsed;
 use sbc_parameters::SbcAllocation;
 use sbc_parameters::SbcChannelMode;

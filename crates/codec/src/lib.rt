@@ -1,0 +1,31 @@
+// What a codec's call gives back: how much it consumed and produced, or a refusal.
+use sbc_parameters::Error;
+ghost use mathlib.Core.Path.{_≡_};
+ghost use Rattle.codec.specs.Answers.{progressOf, isStalled};
+
+// How much a call consumed and produced: bytes and samples for a decoder, samples and bytes for an encoder.
+pub struct Progress {
+    pub consumed: usize,
+    pub produced: usize,
+}
+
+impl Progress {
+    pub fn new(consumed: usize, produced: usize) -> Progress
+        ensures { λ r. ⌜ r ≡ progressOf consumed produced ⌝ }
+    {
+        Progress { consumed, produced }
+    }
+
+    // Whether nothing was consumed or produced.
+    pub fn is_stalled(self) -> bool
+        ensures { λ r. ⌜ r ≡ isStalled self ⌝ }
+    {
+        self.consumed == 0 && self.produced == 0
+    }
+}
+
+// What a decode or encode call gives back.
+pub enum Coded {
+    Done(Progress),
+    Refused(Error),
+}

@@ -1,0 +1,5 @@
+-- Laws of the decoder's calls: the answer, the turns of a decode call, the cases of a seek.
+pub mod Answering
+pub mod Taking
+pub mod Turning
+pub mod Seeking

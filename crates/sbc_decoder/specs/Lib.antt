@@ -1,0 +1,3 @@
+pub mod Decode
+pub mod Seek
+pub mod Told

@@ -1,0 +1,435 @@
+// The SBC and mSBC decoder: its state, what its calls give back, and the calls by value; `lent` has them on a decoder that is lent. Their
+// definitions stand in specs/.
+mod lent;
+
+use codec::Coded;
+use codec::Progress;
+use laws::least;
+use sbc_decode_frame::decode_frame;
+use sbc_filterbank::Synthesis;
+use sbc_parameters::Error;
+use sbc_parameters::Parsed;
+use sbc_parameters::SbcParameters;
+use sbc_parameters::Validated;
+ghost use mathlib.Core.Path.{_≡_};
+ghost use mathlib.Core.Bool.{true};
+ghost use mathlib.Core.List.{_++_};
+ghost use Prim.Native.Nat.{_-_, _*_, _≤_};
+ghost use lib.Dec.{eqb};
+ghost use lib.ListN.{length, take, drop};
+ghost use Rattle.laws.specs.Answers.{gives};
+ghost use Rattle.sbc_parameters.specs.Errors.{errorNumber};
+ghost use Rattle.sbc_parameters.specs.Parameters.{accepted};
+ghost use Rattle.sbc_parameters.specs.Seek.{seekFrame};
+ghost use Rattle.sbc_parameters.specs.Sizes.{frameLength, frameSamples};
+ghost use Rattle.sbc_frame.specs.Layout.{unpack};
+ghost use Rattle.sbc_decoder.specs.Decode.{cleared, play, newDecoder, finish, whole, lookBehind, look, startHistories, refused, shortStep, turnAt, decodeNext, answerOf, decode};
+ghost use Rattle.codec.specs.Answers.{toldCoded, progressOf};
+ghost use Rattle.sbc_decoder.specs.Told.{toldFront, toldOutcome, toldTurn, toldDecoded};
+ghost use Rattle.sbc_decoder.specs.Seek.{toldSought, reset, resumed, seekFirst, seekFrom, seek};
+
+// The blocks that the synthesis filterbank remembers.
+const SYNTHESIS_HISTORY_BLOCKS: u64 = 9;
+
+// The parameters of the last accepted frame, where there was one.
+pub enum LastParameters {
+    None,
+    Some(SbcParameters),
+}
+
+// An SBC and mSBC decoder.
+pub struct SbcDecoder {
+    pub parameters: LastParameters,
+    // By channel.
+    pub synthesis: [Synthesis; 2],
+    // Whether the input is said to have ended.
+    pub finishing: bool,
+    // Samples of each channel still to be dropped.
+    pub skip: usize,
+}
+
+// What a decode call gives back, and the decoder after it.
+pub struct DecodeResult {
+    pub answer: Coded,
+    pub decoder: SbcDecoder,
+}
+
+// A whole frame in front of the input, and whether its byte 3 holds its checksum.
+pub struct WholeFrame {
+    pub parameters: SbcParameters,
+    pub good: bool,
+}
+
+// What stands in front of the input.
+pub enum Front {
+    // Under 3 bytes, or under one frame.
+    Cut,
+    Bad(Error),
+    Whole(WholeFrame),
+}
+
+// How a turn of decode went: no whole frame, a refusal, or a frame that was taken.
+pub enum Outcome {
+    NoneWhole,
+    Refused(Error),
+    Taken(Progress),
+}
+
+// How a turn of decode went, and the decoder after it.
+pub struct TurnResult {
+    pub outcome: Outcome,
+    pub decoder: SbcDecoder,
+}
+
+// Where to go on feeding bytes after a seek, and the samples of each channel that the decoder then drops.
+pub struct SeekRequest {
+    pub byte_offset: u64,
+    pub skip_frames: u32,
+}
+
+// What a seek gives back.
+pub enum SeekOutcome {
+    At(SeekRequest),
+    Refused(Error),
+}
+
+// What a seek gives back, and the decoder after it.
+pub struct Sought {
+    pub outcome: SeekOutcome,
+    pub decoder: SbcDecoder,
+}
+
+fn no_histories() -> [Synthesis; 2]
+    ensures { λ r. ⌜ r ≡ cleared ⌝ }
+{
+    [Synthesis::new(), Synthesis::new()]
+}
+
+impl SbcDecoder {
+    // A decoder that has seen no frame.
+    pub fn new() -> SbcDecoder
+        ensures { λ r. ⌜ r ≡ newDecoder ⌝ }
+    {
+        SbcDecoder {
+            parameters: LastParameters::None,
+            synthesis: no_histories(),
+            finishing: false,
+            skip: 0,
+        }
+    }
+
+    // A decoder as created.
+    pub fn restarted(self) -> SbcDecoder
+        ensures { λ r. ⌜ r ≡ reset self ⌝ }
+    {
+        SbcDecoder::new()
+    }
+
+    // The parameters of the last accepted frame, where there was one.
+    pub fn parameters(self) -> LastParameters
+        ensures { λ r. ⌜ r ≡ self .parameters ⌝ }
+    {
+        self.parameters
+    }
+
+    // Says that the input has ended.
+    pub fn finished(self) -> SbcDecoder
+        ensures { λ r. ⌜ r ≡ finish self ⌝ }
+    {
+        let parameters = self.parameters;
+        let synthesis = self.synthesis;
+        SbcDecoder {
+            parameters,
+            synthesis,
+            finishing: true,
+            skip: self.skip,
+        }
+    }
+
+    // Decodes frames until no whole one is left, or one is refused: its refusal is given back where no frame was accepted before it, and the
+    // progress otherwise.
+    pub fn decoded(self, input: &[u8], output: &mut [i16]) -> DecodeResult
+        ensures { λ r. ⌜ toldDecoded r (now (output .exit)) ≡ decode self (now (input .entry)) (now (output .entry)) ⌝ }
+    {
+        let mut decoder = self;
+        let mut consumed: usize = 0;
+        let mut produced: usize = 0;
+        loop {
+            let turn = decoder.decode_next(&input[consumed..], &mut output[produced..]);
+            let next = turn.decoder;
+            decoder = next;
+            let outcome = turn.outcome;
+            match outcome {
+                Outcome::Taken(progress) => {
+                    consumed += progress.consumed;
+                    produced += progress.produced;
+                }
+                Outcome::NoneWhole => {
+                    return DecodeResult {
+                        answer: Coded::Done(Progress { consumed, produced }),
+                        decoder,
+                    };
+                }
+                Outcome::Refused(error) => {
+                    return DecodeResult {
+                        answer: refusal_or_progress(error, consumed, produced),
+                        decoder,
+                    };
+                }
+            }
+        }
+    }
+
+    // One turn: 3 bytes, header, length, output, checksum, in this order; a refusal leaves all unchanged.
+    fn decode_next(self, input: &[u8], output: &mut [i16]) -> TurnResult
+        ensures { λ r. ⌜ toldTurn r (now (output .exit)) ≡ decodeNext self (now (input .entry)) (now (output .entry)) ⌝ }
+    {
+        let front = look(input);
+        match front {
+            Front::Cut => TurnResult {
+                outcome: self.short_outcome(input),
+                decoder: self,
+            },
+            Front::Bad(error) => TurnResult {
+                outcome: Outcome::Refused(error),
+                decoder: self,
+            },
+            Front::Whole(frame) => self.decode_whole(frame, input, output),
+        }
+    }
+
+    // Of input that ends before its frame: Incomplete with finishing on and some input, else no frame.
+    fn short_outcome(self, input: &[u8]) -> Outcome
+        ensures { λ r. ⌜ toldOutcome r ≡ shortStep self (now (input .entry)) ⌝ }
+    {
+        if input.len() == 0 {
+            return Outcome::NoneWhole;
+        }
+        if self.finishing {
+            return Outcome::Refused(Error::Incomplete);
+        }
+        Outcome::NoneWhole
+    }
+
+    // A turn on a whole frame.
+    fn decode_whole(self, frame: WholeFrame, input: &[u8], output: &mut [i16]) -> TurnResult
+        requires { ⌜ (accepted (frame .parameters) ≡ true) × (frameLength (frame .parameters) ≤ length (now input)) ⌝ }
+        ensures { λ r. ⌜ toldTurn r (now (output .exit)) ≡ turnAt (whole (frame .parameters) (frame .good)) self (now (input .entry)) (now (output .entry)) ⌝ }
+    {
+        let parameters = frame.parameters;
+        if output.len() < parameters.frame_samples() {
+            return TurnResult {
+                outcome: Outcome::Refused(Error::BufferTooSmall),
+                decoder: self,
+            };
+        }
+        if frame.good {
+            return self.play(parameters, &input[..parameters.frame_length()], output);
+        }
+        TurnResult {
+            outcome: Outcome::Refused(Error::InvalidData),
+            decoder: self,
+        }
+    }
+
+    // Plays a frame. Samples that are still to be dropped are decoded, since later ones depend on them, and then left out.
+    fn play(self, parameters: SbcParameters, frame: &[u8], output: &mut [i16]) -> TurnResult
+        requires { ⌜ (accepted parameters ≡ true) × (length (now frame) ≡ frameLength parameters) × (frameSamples parameters ≤ length (now output)) ⌝ }
+        ensures { λ r. ⌜ toldTurn r (now (output .exit)) ≡ play parameters self (unpack parameters (now (frame .entry))) (now (output .entry)) ⌝ }
+    {
+        let histories = self.start_histories(parameters);
+        let synthesis = decode_frame(parameters, histories, frame, output);
+        let dropped = least(self.skip, parameters.samples_per_channel());
+        let gone = dropped * parameters.channels() as usize;
+        let samples = parameters.frame_samples();
+        leave_out(output, gone, samples);
+        TurnResult {
+            outcome: Outcome::Taken(Progress {
+                consumed: frame.len(),
+                produced: samples - gone,
+            }),
+            decoder: SbcDecoder {
+                parameters: LastParameters::Some(parameters),
+                synthesis,
+                finishing: self.finishing,
+                skip: self.skip - dropped,
+            },
+        }
+    }
+
+    // The histories that a frame begins with: cleared where its subbands differ from the last accepted frame's.
+    fn start_histories(self, parameters: SbcParameters) -> [Synthesis; 2]
+        ensures { λ r. ⌜ r ≡ startHistories parameters self ⌝ }
+    {
+        let last = self.parameters;
+        match last {
+            LastParameters::None => no_histories(),
+            LastParameters::Some(before) => {
+                if same_subbands(before, parameters) {
+                    return self.synthesis;
+                }
+                no_histories()
+            }
+        }
+    }
+
+    // Seeks to a position, counted in samples of one channel from the start of the audio. The offset is counted from the start of the stream,
+    // as if every frame had the parameters of the last one; decoding resumes 9 blocks early, to fill the filterbank, and drops them.
+    pub fn sought(self, position: u64) -> Sought
+        ensures { λ r. ⌜ toldSought r ≡ seek self position ⌝ }
+    {
+        let last = self.parameters;
+        match last {
+            LastParameters::None => self.seek_first(position),
+            LastParameters::Some(parameters) => self.seek_from(parameters, position),
+        }
+    }
+
+    // With nothing decoded yet.
+    fn seek_first(self, position: u64) -> Sought
+        ensures { λ r. ⌜ toldSought r ≡ seekFirst self position ⌝ }
+    {
+        if position == 0 {
+            return Sought {
+                outcome: SeekOutcome::At(SeekRequest {
+                    byte_offset: 0,
+                    skip_frames: 0,
+                }),
+                decoder: self.restarted(),
+            };
+        }
+        Sought {
+            outcome: SeekOutcome::Refused(Error::Incomplete),
+            decoder: self,
+        }
+    }
+
+    // In a stream of frames with these parameters.
+    fn seek_from(self, parameters: SbcParameters, position: u64) -> Sought
+        ensures { λ r. ⌜ toldSought r ≡ seekFrom parameters self position ⌝ }
+    {
+        match parameters.validate() {
+            Validated::Accepted => self.seek_accepted(parameters, position),
+            Validated::Refused(error) => Sought {
+                outcome: SeekOutcome::Refused(error),
+                decoder: self,
+            },
+        }
+    }
+
+    fn seek_accepted(self, parameters: SbcParameters, position: u64) -> Sought
+        requires { ⌜ accepted parameters ≡ true ⌝ }
+        ensures { λ r. ⌜ toldSought r ≡ seekFrom parameters self position ⌝ }
+    {
+        let length = parameters.frame_length() as u64;
+        let frame = seek_frame(parameters, position);
+        if frame > 18_446_744_073_709_551_615 / length {
+            return Sought {
+                outcome: SeekOutcome::Refused(Error::InvalidParameter),
+                decoder: self,
+            };
+        }
+        let skip = position - frame * parameters.samples_per_channel() as u64;
+        Sought {
+            outcome: SeekOutcome::At(SeekRequest {
+                byte_offset: frame * length,
+                skip_frames: skip as u32,
+            }),
+            decoder: self.resumed(skip as usize),
+        }
+    }
+
+    // Both histories cleared, finishing off, and the skip pending.
+    fn resumed(self, skip: usize) -> SbcDecoder
+        ensures { λ r. ⌜ r ≡ resumed skip self ⌝ }
+    {
+        let parameters = self.parameters;
+        SbcDecoder {
+            parameters,
+            synthesis: no_histories(),
+            finishing: false,
+            skip,
+        }
+    }
+}
+
+// The frame of the block that is 9 before the position's block, not below 0.
+fn seek_frame(parameters: SbcParameters, position: u64) -> u64
+    requires { ⌜ accepted parameters ≡ true ⌝ }
+    ensures { λ r. ⌜ r ≡ seekFrame parameters position ⌝ }
+{
+    let block = position / parameters.subbands as u64;
+    if block < SYNTHESIS_HISTORY_BLOCKS {
+        return 0;
+    }
+    (block - SYNTHESIS_HISTORY_BLOCKS) / parameters.blocks as u64
+}
+
+// Whether two sets have as many subbands.
+fn same_subbands(before: SbcParameters, parameters: SbcParameters) -> bool
+    ensures { λ r. ⌜ r ≡ eqb (before .subbands) (parameters .subbands) ⌝ }
+{
+    before.subbands == parameters.subbands
+}
+
+// What a refused frame makes the call give back: the frames accepted before it count.
+fn refusal_or_progress(error: Error, consumed: usize, produced: usize) -> Coded
+    ensures { λ r. ⌜ toldCoded r ≡ answerOf (progressOf consumed produced) (refused (errorNumber error)) ⌝ }
+{
+    if consumed == 0 {
+        return Coded::Refused(error);
+    }
+    Coded::Done(Progress { consumed, produced })
+}
+
+// What stands in front of the input. No state, no output.
+fn look(input: &[u8]) -> Front
+    ensures { λ r. ⌜ toldFront r ≡ look (now (input .entry)) ⌝ }
+{
+    let parsed = SbcParameters::parse(input);
+    match parsed {
+        Parsed::Parameters(parameters) => look_behind(parameters, input),
+        Parsed::Refused(error) => {
+            if error.number() == 1 {
+                return Front::Cut;
+            }
+            Front::Bad(error)
+        }
+    }
+}
+
+// The length and the checksum of a frame with these parameters.
+fn look_behind(parameters: SbcParameters, input: &[u8]) -> Front
+    requires { ⌜ accepted parameters ≡ true ⌝ }
+    ensures { λ r. ⌜ toldFront r ≡ lookBehind (now (input .entry)) (gives parameters) ⌝ }
+{
+    let length = parameters.frame_length();
+    if input.len() < length {
+        return Front::Cut;
+    }
+    let checksum = crc8::checksum(&input[..length], parameters.side_bits());
+    Front::Whole(WholeFrame {
+        parameters,
+        good: is_checksum(checksum, input[3]),
+    })
+}
+
+// Whether a byte is the checksum.
+fn is_checksum(checksum: u8, byte: u8) -> bool
+    ensures { λ r. ⌜ r ≡ eqb checksum byte ⌝ }
+{
+    checksum == byte
+}
+
+// Leaves out the first samples of a frame's: the others move to the front, and the places behind them keep what they held.
+fn leave_out(output: &mut [i16], gone: usize, samples: usize)
+    requires { ⌜ (gone ≤ samples) × (samples ≤ length (now output)) ⌝ }
+    ensures { λ _. ⌜ now (output .exit) ≡ take (samples - gone) (drop gone (now (output .entry))) ++ drop (samples - gone) (now (output .entry)) ⌝ }
+{
+    if gone == 0 {
+        return;
+    }
+    for i in 0..samples - gone {
+        output[i] = output[gone + i];
+    }
+}

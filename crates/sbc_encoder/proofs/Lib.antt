@@ -1,0 +1,3 @@
+-- Laws of the encoder's call: the frames that it writes, one after the other.
+pub mod Writing
+pub mod Framing
