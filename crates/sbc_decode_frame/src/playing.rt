@@ -1,9 +1,9 @@
 // The subband samples of a frame's channels to PCM, block by block through each channel's synthesis filterbank.
 use sbc_filterbank::Synthesis;
 use sbc_filterbank::advance;
-use sbc_filterbank::synthesize4;
-use sbc_filterbank::synthesize8;
 use sbc_parameters::SbcParameters;
+use sbc_synthesize::synthesize4;
+use sbc_synthesize::synthesize8;
 ghost use mathlib.Core.Path.{_≡_};
 ghost use mathlib.Core.Bool.{true};
 ghost use mathlib.Core.List.{[], _∷_, _++_};

@@ -1,6 +1,6 @@
 // PCM to the subband samples of a channel, block by block through its analysis filterbank, into an array of 128, eight places a block.
-use sbc_filterbank::analyze4;
-use sbc_filterbank::analyze8;
+use sbc_analyze::analyze4;
+use sbc_analyze::analyze8;
 ghost use mathlib.Core.Path.{_≡_};
 ghost use Prim.Native.Nat.{_+_, _*_, _≤_, _<_};
 ghost use lib.ListN.{length, getD};

@@ -1,10 +1,6 @@
--- Laws of the filterbanks.
+-- Laws of the filterbanks, and of the sums and the numbers that the code of both has.
 pub mod Bands
 pub mod Lengths
 pub mod Ring
-mod History
-mod Bounds
-mod Words
-mod Columns
-mod Rows
-mod Blocks
+pub mod Bounds
+pub mod Words

@@ -1,13 +1,6 @@
-// The analysis and synthesis filterbanks of SBC, block by block.
-pub mod analysis;
-mod matrices;
+// The analysis and synthesis filterbanks of SBC. Their definitions stand in specs/, and the laws of these in proofs/; here is the ring that the
+// synthesis filterbank remembers from block to block. The code that analyzes and synthesizes a block is in the crates sbc_analyze and sbc_synthesize.
 pub mod synthesis;
 
-pub use analysis::analyze;
-pub use analysis::analyze4;
-pub use analysis::analyze8;
 pub use synthesis::Synthesis;
 pub use synthesis::advance;
-pub use synthesis::synthesize;
-pub use synthesis::synthesize4;
-pub use synthesis::synthesize8;

@@ -1,0 +1,66 @@
+-- How the code of the synthesis takes the sums in parts, for the contracts of its inner functions alone: samples whose cosines are equal or
+-- opposite are added or subtracted first, and the outputs are summed vector by vector. Nothing public cites this.
+use Prim.Native.Nat.{ℕ, _+_, _*_, _-_, _/_, _%_, _^_, _≤_, _<_}
+use mathlib.Core.Path.{_≡_}
+use mathlib.Core.List.{List}
+use lib.Dec.{eqb, leb, ltb}
+use lib.ListN.{getD}
+use lib.IntN.{ℤ, pos, negsuc, natAbs, _+ℤ_, _*ℤ_}
+use mir.Syntax.{w32}
+use Rattle.laws.specs.Choice.{if_then_else_}
+use Rattle.laws.specs.Lists.{collect, build, total}
+use Rattle.laws.specs.Integers.{floorDiv, clampZ}
+use Rattle.laws.specs.Sums.{sumZ, upTo}
+use Rattle.sbc_filterbank.specs.Subbands.{prototypeAt}
+use Rattle.sbc_filterbank.specs.Synthesis.{synthesisCosine, sampleTerm}
+
+-- ---- synthesis: s[n] with its mirror s[S - 1 - n] added (odd = 0), or subtracted (1)
+abbrev pub pairSign : ℕ → ℤ
+pairSign odd = if eqb odd 0 then pos 1 else negsuc 0
+
+unfoldable pub pairOf : ℕ → ℕ → (ℕ → ℤ) → ℕ → ℤ
+pairOf S odd s n = s n +ℤ pairSign odd *ℤ s (S - 1 - n)
+
+-- the row of V that row m of the matrix gives, and whether it takes the sums (0) or the differences (1)
+abbrev pub rowOf : ℕ → ℕ → ℕ
+rowOf S m = if ltb m (S / 2) then m else m + S / 2 + 1
+
+abbrev pub rowOdd : ℕ → ℕ → ℕ
+rowOdd S m = (rowOf S m + S / 2) % 2
+
+-- the matrix: for each row of V that is not a mirror of another, the cosines of its first S/2 subbands
+unfoldable pub synthesisRows : ℕ → List ℤ
+synthesisRows S = collect S (λ m. build (S / 2) (λ n. synthesisCosine S (rowOf S m) n))
+
+-- entries of the matrix, from `at` on, times pairs; and all of row m
+abbrev pub rowTerm : List ℤ → List ℤ → ℕ → ℕ → ℤ
+rowTerm matrix pairs at n = getD matrix (at + n) (pos 0) *ℤ getD pairs n (pos 0)
+
+unfoldable pub rowSum : ℕ → List ℤ → List ℤ → ℕ → ℤ
+rowSum S sums differences m = sumZ (S / 2) (rowTerm (synthesisRows S) (if eqb (rowOdd S m) 0 then sums else differences) (m * (S / 2)))
+
+-- row r of V: the row of the matrix that it comes from, and its sign; row S/2 is 0
+abbrev pub rowSource : ℕ → ℕ → ℕ
+rowSource S r =
+    if ltb r (S / 2) then r else (if leb r S then S - r else (if leb r (3 * (S / 2)) then r - S / 2 - 1 else 5 * (S / 2) - r - 1))
+
+abbrev pub rowSign : ℕ → ℕ → ℤ
+rowSign S r = if eqb r (S / 2) then pos 0 else (if ltb r (S / 2) then pos 1 else (if leb r S then negsuc 0 else pos 1))
+
+-- V[r] from the rows
+unfoldable pub rowValue : ℕ → List ℤ → ℕ → ℤ
+rowValue S rows r = clampZ w32 (floorDiv (rowSign S r *ℤ getD rows (rowSource S r) (pos 0)) (2 ^ 30))
+
+-- what the taps of output j for the n newest vectors sum to, each without its sign: for all ten at most 700000000
+abbrev pub tapSum : ℕ → ℕ → ℕ → ℕ
+tapSum S n j = total n (λ b. natAbs (prototypeAt S (b * S + j)))
+
+-- so an output's sum is within this, as a vector's numbers are within 2 ^ 31
+abbrev pub outputBound : ℕ
+outputBound = 700000000 * 2 ^ 31
+
+-- the S sums of the outputs over the n newest vectors, in an array of eight, and their bounds
+abbrev pub OutputSums : ℕ → List (List ℤ) → ℕ → List ℤ → Type 0
+OutputSums S vs n sums =
+    (sums ≡ build 8 (upTo S (λ j. sumZ n (sampleTerm S vs j))))
+    × ((j : ℕ) → j < S → natAbs (sumZ n (sampleTerm S vs j)) ≤ tapSum S n j * 2 ^ 31)
