@@ -6,11 +6,9 @@ use mathlib.Core.Path.{_≡_, refl, sym, ap, _∙_}
 use mathlib.Core.Logic.{_≢_}
 use mathlib.Core.Bool.{Bool, true, false}
 use mathlib.Core.List.{List}
-use native.Mathlib.Decide.{ℕ-discrete}
 use native.Mathlib.Omega.{arith}
 use lib.Dec.{ltb}
-use lib.ListN.{length, getD, set, length-set, List·getD-eq-default}
-use lib.Seq.{getD-set-same, getD-set-other}
+use lib.ListN.{length, getD, set, List·getD-eq-default}
 use lib.IntN.{ℤ, pos}
 use lib.Signed.{mag}
 use mir.Syntax.{w16}
@@ -20,6 +18,7 @@ use borrow.Author.Tests.{lt-ltb, le-ltb, ltb-true, ltb-false}
 use Rattle.laws.specs.Choice.{if_then_else_}
 use Rattle.laws.specs.Lists.{build}
 use Rattle.laws.proofs.Cases.{by-test}
+use Rattle.laws.proofs.Arrays.{build-set}
 use Rattle.laws.proofs.Lists.{length-build, getD-build, getD-build-out, build-is, build-ext}
 use Rattle.sbc_filterbank.specs.Analysis.{shifted, shiftedAt}
 use Rattle.sbc_analyze.specs.Fold.{joinAt, movedUp, entering}
@@ -38,26 +37,17 @@ module _ (n : ℕ) (f g : ℕ → ℤ) where
       (λ e. sym (rw (lt-ltb k (n + 1) (omega (arith, ltb-true k n e)))))
       (λ e. sym (rw (le-ltb k (n + 1) (omega (arith, ltb-false k n e)))))
 
--- a store at i makes a list built of f one built of g, where g has at i what is stored and agrees with f elsewhere
-build-set : (n : ℕ) (f g : ℕ → ℤ) (i : ℕ) (v : ℤ) → v ≡ g i → ((k : ℕ) → k ≢ i → f k ≡ g k) → set (build n f) i v ≡ build n g
-build-set n f g i v e same =
-    sym (build-is n g (set (build n f) i v) (pos 0) (length-set (build n f) i v ∙ length-build n f) (λ k p. go k p (ℕ-discrete k i)))
-  where
-    go : (k : ℕ) → k < n → Dec (k ≡ i) → g k ≡ getD (set (build n f) i v) k (pos 0)
-    go k p (yes q) = rw q (sym e ∙ sym (getD-set-same (build n f) i v (pos 0) (rw (length-build n f) (rw q at p))))
-    go k p (no ne) = sym (same k ne) ∙ sym (getD-set-other (build n f) i k v (pos 0) ne ∙ getD-build n f k (pos 0) p)
-
 -- ---- the two loops' stores, as the machine reads back what is stored
 module _ (n : ℕ) (f g : ℕ → ℤ) (k : ℕ) (xs : List ℤ) (v : ℤ) (fits : SFits w16 v) where
   pub store-up : xs ≡ build n (joinAt k f g) → v ≡ f k → set xs k (toZ w16 (ofZ w16 v)) ≡ build n (joinAt (k + 1) f g)
   store-up e q =
       ap (λ (l : List ℤ). set l k (toZ w16 (ofZ w16 v))) e
-      ∙ build-set n (joinAt k f g) (joinAt (k + 1) f g) k _ (toZ-ofZ fits ∙ q ∙ sym (join-below (k + 1) f g k (omega arith))) (join-next k f g)
+      ∙ build-set n (joinAt k f g) (joinAt (k + 1) f g) k _ (pos 0) (toZ-ofZ fits ∙ q ∙ sym (join-below (k + 1) f g k (omega arith))) (join-next k f g)
 
   store-down : xs ≡ build n (joinAt (k + 1) f g) → v ≡ g k → set xs k (toZ w16 (ofZ w16 v)) ≡ build n (joinAt k f g)
   store-down e q =
       ap (λ (l : List ℤ). set l k (toZ w16 (ofZ w16 v))) e
-      ∙ build-set n (joinAt (k + 1) f g) (joinAt k f g) k _ (toZ-ofZ fits ∙ q ∙ sym (join-from k f g k (omega arith)))
+      ∙ build-set n (joinAt (k + 1) f g) (joinAt k f g) k _ (pos 0) (toZ-ofZ fits ∙ q ∙ sym (join-from k f g k (omega arith)))
       (λ i ne. sym (join-next k f g i ne))
 
 -- ---- the loops' starts and ends: nothing is moved yet, and all is

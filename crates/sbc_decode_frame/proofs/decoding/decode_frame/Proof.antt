@@ -1,4 +1,4 @@
--- `sbc_frame::decoding::decode_frame` meets its contract.
+-- `sbc_decode_frame::decoding::decode_frame` meets its contract.
 -- Assumes nothing.
 use mathlib.Core.Path.{ap, _∙_}
 use mathlib.Core.List.{List, _++_}

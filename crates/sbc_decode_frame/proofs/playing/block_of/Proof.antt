@@ -1,4 +1,4 @@
--- `sbc_frame::playing::block_of` meets its contract. The loop's invariant: the places before s hold the block's samples, and the others 0.
+-- `sbc_decode_frame::playing::block_of` meets its contract. The loop's invariant: the places before s hold the block's samples, and the others 0.
 -- Assumes nothing.
 use Prim.Native.Nat.{_-_, _≤_}
 use mathlib.Core.Path.{_≡_, refl}

@@ -1,4 +1,4 @@
--- `sbc_frame::playing::play_block` meets its contract: a block of the definition, for 4 and for 8 subbands.
+-- `sbc_decode_frame::playing::play_block` meets its contract: a block of the definition, for 4 and for 8 subbands.
 -- Assumes nothing.
 use Prim.Native.Nat.{_^_}
 use mathlib.Core.Path.{refl}

@@ -1,4 +1,4 @@
--- `sbc_frame::playing::play_channel` meets its contract. The loop's invariant: the ring is that of the history after the blocks before `block`,
+-- `sbc_decode_frame::playing::play_channel` meets its contract. The loop's invariant: the ring is that of the history after the blocks before `block`,
 -- and their samples stand in the channel's places.
 -- Assumes nothing.
 use Prim.Native.Nat.{ℕ, _+_, _*_, _-_, _≤_}

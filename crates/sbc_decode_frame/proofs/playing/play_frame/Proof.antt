@@ -1,4 +1,4 @@
--- `sbc_frame::playing::play_frame` meets its contract: one channel or two, each put into its places, are the frame.
+-- `sbc_decode_frame::playing::play_frame` meets its contract: one channel or two, each put into its places, are the frame.
 -- Assumes nothing.
 use Prim.Native.Nat.{ℕ, _≤_}
 use mathlib.Core.Path.{_≡_, sym, subst}

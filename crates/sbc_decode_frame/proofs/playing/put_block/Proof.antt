@@ -1,4 +1,4 @@
--- `sbc_frame::playing::put_block` meets its contract. The loop's invariant: the first j samples stand in the channel's places, and all other
+-- `sbc_decode_frame::playing::put_block` meets its contract. The loop's invariant: the first j samples stand in the channel's places, and all other
 -- places hold what they held.
 -- Assumes nothing.
 use Prim.Native.Nat.{ℕ, _+_, _*_, _-_, _≤_, _<_}

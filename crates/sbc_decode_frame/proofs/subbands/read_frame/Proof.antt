@@ -1,4 +1,4 @@
--- `sbc_frame::subbands::read_frame` meets its contract: what it has before it reads the values is `Got`, and the laws of Received do the rest.
+-- `sbc_decode_frame::subbands::read_frame` meets its contract: what it has before it reads the values is `Got`, and the laws of Received do the rest.
 -- Assumes nothing.
 use native.Mathlib.Omega.{arith}
 use Rattle.sbc_parameters.proofs.Accepted.{ranges, frame-length-range}

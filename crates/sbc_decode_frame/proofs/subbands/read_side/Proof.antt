@@ -1,4 +1,4 @@
--- `sbc_frame::subbands::read_side` meets its contract.
+-- `sbc_decode_frame::subbands::read_side` meets its contract.
 -- Assumes nothing.
 use Prim.Native.Nat.{ℕ, _+_, _*_, _-_}
 use mathlib.Core.Path.{ap, ap₂, _∙_}

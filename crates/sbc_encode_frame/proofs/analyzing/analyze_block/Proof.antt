@@ -1,4 +1,4 @@
--- `sbc_frame::analyzing::analyze_block` meets its contract: a block of the definition, for 4 and for 8 subbands.
+-- `sbc_encode_frame::analyzing::analyze_block` meets its contract: a block of the definition, for 4 and for 8 subbands.
 -- Assumes nothing.
 use mathlib.Core.Path.{refl}
 use mathlib.Core.Logic.{inl, inr}

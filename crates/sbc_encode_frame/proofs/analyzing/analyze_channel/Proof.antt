@@ -1,4 +1,4 @@
--- `sbc_frame::analyzing::analyze_channel` meets its contract. The loop's invariant: the history is that after the blocks before `block`, and their
+-- `sbc_encode_frame::analyzing::analyze_channel` meets its contract. The loop's invariant: the history is that after the blocks before `block`, and their
 -- subband samples stand in their places.
 -- Assumes nothing.
 use Prim.Native.Nat.{ℕ, _+_, _*_, _-_, _≤_}

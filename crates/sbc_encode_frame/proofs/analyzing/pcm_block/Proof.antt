@@ -1,4 +1,4 @@
--- `sbc_frame::analyzing::pcm_block` meets its contract. The loop's invariant: the places before j hold the channel's samples, and the others 0.
+-- `sbc_encode_frame::analyzing::pcm_block` meets its contract. The loop's invariant: the places before j hold the channel's samples, and the others 0.
 -- Assumes nothing.
 use Prim.Native.Nat.{_+_, _*_, _-_, _≤_, _<_}
 use mathlib.Core.Path.{_≡_, refl}

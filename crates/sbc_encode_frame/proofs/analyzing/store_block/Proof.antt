@@ -1,4 +1,4 @@
--- `sbc_frame::analyzing::store_block` meets its contract. The loop's invariant: the first s places of the block hold its samples, and all other
+-- `sbc_encode_frame::analyzing::store_block` meets its contract. The loop's invariant: the first s places of the block hold its samples, and all other
 -- places hold what they held.
 -- Assumes nothing.
 use Prim.Native.Nat.{ℕ, _*_, _-_, _≤_}

@@ -1,4 +1,4 @@
--- `sbc_frame::encoding::analyze_second` meets its contract.
+-- `sbc_encode_frame::encoding::analyze_second` meets its contract.
 -- Assumes nothing.
 use mathlib.Core.Path.{refl}
 use native.Mathlib.Omega.{arith}

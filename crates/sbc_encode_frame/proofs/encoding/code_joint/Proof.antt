@@ -1,4 +1,4 @@
--- `sbc_frame::encoding::code_joint` meets its contract.
+-- `sbc_encode_frame::encoding::code_joint` meets its contract.
 -- Assumes nothing.
 use Prim.Native.Nat.{_≤_}
 use native.Mathlib.Omega.{arith}

@@ -1,4 +1,4 @@
--- `sbc_frame::encoding::code_plain` meets its contract.
+-- `sbc_encode_frame::encoding::code_plain` meets its contract.
 -- Assumes nothing.
 use borrow.Author.Needs.{needs}
 use Rattle.sbc_parameters.proofs.Accepted.{ranges}

@@ -1,4 +1,4 @@
--- `sbc_frame::encoding::encode_frame` meets its contract: what is coded of the samples (`CodingIn`) is written as the frame's bytes.
+-- `sbc_encode_frame::encoding::encode_frame` meets its contract: what is coded of the samples (`CodingIn`) is written as the frame's bytes.
 -- Assumes nothing.
 use mathlib.Core.Path.{_∙_}
 use mathlib.Core.List.{[], _∷_}

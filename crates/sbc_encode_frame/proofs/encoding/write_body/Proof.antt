@@ -1,4 +1,4 @@
--- `sbc_frame::encoding::write_body` meets its contract: the parts are written one behind the other, and fill the body but for fewer than eight bits.
+-- `sbc_encode_frame::encoding::write_body` meets its contract: the parts are written one behind the other, and fill the body but for fewer than eight bits.
 -- Assumes nothing.
 use Prim.Native.Nat.{ℕ, _+_, _-_, _*_, _≤_, _<_}
 use mathlib.Core.Path.{_≡_, sym, ap, ap₂, subst, _∙_}

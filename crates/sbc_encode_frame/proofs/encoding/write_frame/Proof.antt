@@ -1,4 +1,4 @@
--- `sbc_frame::encoding::write_frame` meets its contract: the header's bytes, then the body, then the checksum, which does not look at its own byte.
+-- `sbc_encode_frame::encoding::write_frame` meets its contract: the header's bytes, then the body, then the checksum, which does not look at its own byte.
 -- Assumes nothing.
 use Prim.Native.Nat.{ℕ, _+_, _-_, _≤_}
 use mathlib.Core.Path.{_≡_, ap, ap₂, _∙_}

@@ -1,4 +1,4 @@
--- `sbc_frame::writing::finish` meets its contract: with no bits held all bytes are written, else the last byte has the bits held and zeros.
+-- `sbc_encode_frame::writing::finish` meets its contract: with no bits held all bytes are written, else the last byte has the bits held and zeros.
 -- Assumes nothing.
 use Prim.Native.Nat.{ℕ, _-_, _^_, _≤_}
 use mathlib.Core.Path.{_≡_, subst}

@@ -1,4 +1,4 @@
--- `sbc_frame::writing::put` meets its contract. The loop's invariant: what the writer has written is what it had before the first byte was
+-- `sbc_encode_frame::writing::put` meets its contract. The loop's invariant: what the writer has written is what it had before the first byte was
 -- flushed. The measure is the number of bits held.
 -- Assumes nothing.
 use Prim.Native.Nat.{ℕ, _+_, _-_, _*_, _/_, _%_, _^_, _≤_, _<_}
