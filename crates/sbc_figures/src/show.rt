@@ -1,5 +1,6 @@
 // What the program writes: words, numbers with a space before each, and verdicts.
 use libc::STDOUT_FILENO;
+use sbc::Coded;
 use sbc_parameters::Error;
 
 pub fn text(bytes: &[u8]) {
@@ -22,6 +23,17 @@ pub fn end_line() {
 pub fn refusal(error: Error) {
     text(b" refused");
     byte(error.number());
+}
+
+// What a call consumed and produced.
+pub fn progress(coded: Coded) {
+    match coded {
+        Coded::Done(progress) => {
+            number(progress.consumed as u64);
+            number(progress.produced as u64);
+        }
+        Coded::Refused(error) => refusal(error),
+    }
 }
 
 // Whether the code gives what the label says.
