@@ -1,4 +1,4 @@
--- How far two lists of samples are apart. Both are as long as the first.
+-- How far two lists of samples, which are equally long, are apart; and the samples of a list of bytes.
 use Prim.Native.Nat.{ℕ, _+_, _*_}
 use mathlib.Core.List.{List}
 use lib.Dec.{eqb}

@@ -107,6 +107,7 @@ fn near(samples: &[i16], path: &[u8]) -> bool {
     }
 }
 
+// The verdict: equal to the Rust, and near the other.
 fn show_distances(samples: &[i16], rust: &[u8], theirs: &[u8]) {
     number(samples.len() as u64);
     let equal = same_as(samples, rust);
