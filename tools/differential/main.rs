@@ -3,6 +3,7 @@
 //!     differential                            answers the calls of standard input with the Rust codec, as sbc_replay must
 //!     differential generate SEED COUNT        writes a list of calls
 //!     differential streams FOLDER             writes a list of calls on streams that others made
+//!     differential record FOLDER              writes the Rust's PCM beside each of those streams
 //!     differential compare LIST PROGRAM SAVE  runs a list through the Rust and through a program; a difference is made small and shown
 mod compare;
 mod generate;
@@ -26,6 +27,7 @@ fn main() {
             output.write_all(&list).expect("the list is written");
         }
         ["streams", folder] => output.write_all(&streams::streams(folder.as_ref())).expect("the list is written"),
+        ["record", folder] => streams::record(folder.as_ref()),
         ["compare", list, program, save] => {
             let same = compare::compare(&std::fs::read(list).expect("the list is read"), program, save);
             std::process::exit(if same { 0 } else { 1 });
