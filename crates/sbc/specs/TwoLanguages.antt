@@ -138,7 +138,8 @@ TwoLanguages =
     SameResults p c (run p start xs) (run p start ys)
 
 -- ---- the same of the code: whatever its calls give, as far as the contracts of `SbcEncoder::new`, `SbcEncoder::encoded`, `SbcDecoder::new`,
--- `SbcDecoder::finished` and `SbcDecoder::decoded` tell, which are the equations below
+-- `SbcDecoder::finished` and `SbcDecoder::decoded` tell, which are the equations below. `SbcEncoder::encode`, `SbcDecoder::finish` and
+-- `SbcDecoder::decode` tell the same of their answer and of the state where the caller has it
 
 module _ (p : SbcParameters) where
   -- a call of the code: what it gave back, and its output after the call

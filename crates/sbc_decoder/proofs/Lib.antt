@@ -3,3 +3,4 @@ pub mod Answering
 pub mod Taking
 pub mod Turning
 pub mod Seeking
+mod Lending

@@ -1,0 +1,6 @@
+-- Thin calls on a state that is lent by `&mut`: the state is copied out and passed by value, and what comes back is stored. One file for each
+-- form of such a call.
+pub mod Types
+pub mod Alone
+pub mod Number
+pub mod Slices
