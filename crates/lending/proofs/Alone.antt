@@ -3,9 +3,8 @@
 --         *self = State::core(*self);
 --     }
 -- It says of the state at exit what `core` says of what it gives back.
--- A walk of its MIR, by hand, for any state. The borrow is opened, the struct is copied out and passed by value, and the borrow is closed at what
--- the core gave back. No field of the
--- state is named: it is read whole and written whole.
+-- A walk of its MIR, by hand, for any state. The borrow is opened, the struct is copied out and passed by value, and the borrow is closed at
+-- what the core gave back. No field of the state is named: it is read whole and written whole.
 -- Assumes nothing.
 use mathlib.Core.Path.{_≡_, refl}
 use Prim.Native.Nat.{ℕ}

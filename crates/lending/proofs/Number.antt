@@ -6,8 +6,7 @@
 --     }
 -- It says of its answer and of the state at exit what `core` says of what it gives back.
 -- A walk of its MIR, by hand, for any state and answer. The borrow is opened, the struct is copied out and passed by value, and the borrow is
--- closed at the state that the core gave
--- back. No field of the state is named: it is read whole and written whole.
+-- closed at the state that the core gave back. No field of the state is named: it is read whole and written whole.
 -- Assumes nothing.
 use mathlib.Core.Path.{_≡_, refl, ap}
 use Prim.Native.Nat.{ℕ, _<_, _^_}

@@ -5,11 +5,10 @@
 --         result.answer
 --     }
 -- It says of its answer, of the state at exit and of the output at exit what `core` says of what it gives back and of the output at exit.
--- A walk of its MIR, by hand, for any state, answer and elements. The borrow is opened, the struct is copied out and passed by value beside the
--- two slices, and the borrow is closed at
--- the state that the core gave back. No field of the state is named: it is read whole and written whole. The input is Copy, and one copy is kept
--- for the exit. The output goes to the
--- core for good, at its own lifetime, and what says its last list comes back.
+-- A walk of its MIR, by hand, for any state, answer and elements. The borrow is opened, the struct is copied out and passed by value beside
+-- the two slices, and the borrow is closed at the state that the core gave back. No field of the state is named: it is read whole and written
+-- whole. The input is Copy, and one copy is kept for the exit. The output goes to the core for good, at its own lifetime, and what says its
+-- last list comes back.
 -- Assumes nothing.
 use mathlib.Core.Path.{_≡_, refl, ap}
 use Prim.Native.Nat.{ℕ}
