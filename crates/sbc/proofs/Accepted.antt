@@ -19,7 +19,7 @@ use Rattle.sbc_frame.specs.Layout.{pack}
 use Rattle.sbc_frame.proofs.Written.{length-pack, cut-pack}
 use Rattle.codec.specs.Answers.{progressOf}
 use Rattle.sbc_encoder.specs.Encode.{encodedFrames, packAll, encodeFrames, encode}
-use Rattle.sbc_decoder.specs.Decode.{whole, look}
+use Rattle.sbc_look.specs.Look.{whole, look}
 use Rattle.codec.specs.declared.Progress.{Progress}
 use Rattle.sbc_encoder.specs.declared.SbcEncoder.{SbcEncoder}
 use Rattle.sbc_encoder.proofs.Writing.{frames-count, frames, behind, encode-cases}

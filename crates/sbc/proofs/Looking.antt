@@ -21,7 +21,8 @@ use Rattle.sbc_frame.specs.Fields.{Fields, WellFormed}
 use Rattle.sbc_frame.specs.Layout.{pack, unpack}
 use Rattle.sbc_frame.proofs.Written.{checksum-pack, parse-pack}
 use Rattle.sbc_frame.proofs.Reading.{unpack-pack}
-use Rattle.sbc_decoder.specs.Decode.{cut, whole, lookBehind, look, refused, play, unchanged, shortStep, turnAt, decodeNext}
+use Rattle.sbc_look.specs.Look.{cut, whole, lookBehind, look}
+use Rattle.sbc_decoder.specs.Decode.{refused, play, unchanged, shortStep, turnAt, decodeNext}
 use Rattle.sbc_decoder.specs.declared.SbcDecoder.{SbcDecoder}
 
 -- ---- what is seen

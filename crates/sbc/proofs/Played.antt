@@ -23,7 +23,8 @@ use Rattle.sbc_frame.specs.Decoding.{decodeFields}
 use Rattle.sbc_frame.proofs.Coding.{length-decoded}
 use Rattle.codec.specs.Answers.{progressOf, addProgress, wholeFrames}
 use Rattle.sbc_encoder.specs.Encode.{packAll}
-use Rattle.sbc_decoder.specs.Decode.{cut, look, startHistories, dropped, nextDecoder, nextOutput, Step, none-whole, refused, taken, play, unchanged}
+use Rattle.sbc_look.specs.Look.{cut, look}
+use Rattle.sbc_decoder.specs.Decode.{startHistories, dropped, nextDecoder, nextOutput, Step, none-whole, refused, taken, play, unchanged}
 use Rattle.sbc_decoder.specs.Decode.{withParameters, withSynthesis, withSkip, shortStep, decodeNext, Turns, afterStep, decodeTurns, decodeAll}
 use Rattle.sbc_decoder.specs.declared.SbcDecoder.{SbcDecoder}
 use Rattle.codec.proofs.Fitting.{none-in, none-out, one-in, fits-in}

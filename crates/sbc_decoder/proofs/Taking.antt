@@ -25,7 +25,8 @@ use Rattle.sbc_frame.specs.Layout.{unpack}
 use Rattle.sbc_frame.specs.Decoding.{decodeFields}
 use Rattle.sbc_frame.proofs.Coding.{length-decoded}
 use Rattle.codec.specs.Answers.{progressOf, addProgress}
-use Rattle.sbc_decoder.specs.Decode.{Look, cut, bad, whole, lookBehind, look, startHistories, dropped, nextOutput, Step, none-whole, refused, Turn, play, unchanged, shortStep, turnAt, decodeNext, Turns, afterStep, decodeTurns, decodeAll, decode}
+use Rattle.sbc_look.specs.Look.{Look, cut, bad, whole, lookBehind, look}
+use Rattle.sbc_decoder.specs.Decode.{startHistories, dropped, nextOutput, Step, none-whole, refused, Turn, play, unchanged, shortStep, turnAt, decodeNext, Turns, afterStep, decodeTurns, decodeAll, decode}
 use Rattle.codec.specs.declared.Progress.{Progress}
 use Rattle.sbc_decoder.specs.declared.SbcDecoder.{SbcDecoder}
 use Rattle.laws.proofs.Lists.{nil-of-length}

@@ -5,13 +5,11 @@ use mathlib.Core.Bool.{Bool, true, false, _&&_, not}
 use mathlib.Core.List.{List, _++_}
 use lib.Dec.{eqb, ltb}
 use lib.IntN.{ℤ}
-use lib.ListN.{length, getD, take, drop, replicate}
+use lib.ListN.{length, take, drop, replicate}
 use Rattle.laws.specs.Choice.{if_then_else_}
 use Rattle.laws.specs.Answers.{Told, gives, refuses}
-use Rattle.crc8.specs.Checksum.{checksum}
 use Rattle.sbc_parameters.specs.Parameters.{channels}
-use Rattle.sbc_parameters.specs.Sizes.{sideBits, frameLength, samplesPerChannel, frameSamples}
-use Rattle.sbc_parameters.specs.Header.{parse}
+use Rattle.sbc_parameters.specs.Sizes.{frameLength, samplesPerChannel, frameSamples}
 use Rattle.sbc_parameters.specs.declared.SbcParameters.{SbcParameters}
 use Rattle.sbc_filterbank.specs.declared.synthesis.Synthesis.{Synthesis}
 use Rattle.sbc_frame.specs.Fields.{Fields}
@@ -20,6 +18,7 @@ use Rattle.sbc_frame.specs.Channels.{noSynthesis}
 use Rattle.sbc_frame.specs.Decoding.{decodeFields, synthesisHistories}
 use Rattle.codec.specs.Answers.{progressOf, addProgress}
 use Rattle.codec.specs.declared.Progress.{Progress}
+use Rattle.sbc_look.specs.Look.{Look, cut, bad, whole, look}
 use Rattle.sbc_decoder.specs.declared.LastParameters.{LastParameters}
 use Rattle.sbc_decoder.specs.declared.LastParameters.the-variants.{None, Some}
 use Rattle.sbc_decoder.specs.declared.SbcDecoder.{SbcDecoder}
@@ -47,25 +46,6 @@ withSkip n d = record { parameters = d .parameters; synthesis = d .synthesis; fi
 -- the setter of finishing sets that flag and nothing else
 unfoldable pub finish : SbcDecoder → SbcDecoder
 finish d = withFinishing true d
-
--- ---- looking at input: the three-byte, header and length tests, and a yes or no on the checksum; no state, no output
-
-pub data Look : Type 0 where
-  -- under 3 bytes, or under one frame
-  cut : Look
-  -- the header is refused
-  bad : ℕ → Look
-  -- a whole frame, and whether byte 3 holds its checksum
-  whole : SbcParameters → Bool → Look
-
-unfoldable pub lookBehind : List ℕ → Told SbcParameters → Look
-lookBehind input (refuses n) = if eqb n 1 then cut else bad n
-lookBehind input (gives p) =
-    if ltb (length input) (frameLength p) then cut else
-    whole p (eqb (checksum (take (frameLength p) input) (sideBits p)) (getD input 3 0))
-
-unfoldable pub look : List ℕ → Look
-look input = lookBehind input (parse input)
 
 -- ---- playing a frame
 

@@ -3,18 +3,11 @@ use mathlib.Core.List.{List}
 use lib.IntN.{ℤ}
 use Rattle.sbc_parameters.specs.Errors.{errorNumber}
 use Rattle.codec.specs.Answers.{toldCoded}
-use Rattle.sbc_decoder.specs.Decode.{Look, cut, bad, whole, Step, none-whole, refused, taken, Turn, Decoded}
-use Rattle.sbc_decoder.specs.declared.Front.{Front}
-use Rattle.sbc_decoder.specs.declared.Front.the-variants.{Cut, Bad, Whole}
+use Rattle.sbc_decoder.specs.Decode.{Step, none-whole, refused, taken, Turn, Decoded}
 use Rattle.sbc_decoder.specs.declared.Outcome.{Outcome}
 use Rattle.sbc_decoder.specs.declared.Outcome.the-variants.{NoneWhole, Refused, Taken}
 use Rattle.sbc_decoder.specs.declared.TurnResult.{TurnResult}
 use Rattle.sbc_decoder.specs.declared.DecodeResult.{DecodeResult}
-
-unfoldable pub toldFront : Front → Look
-toldFront Cut = cut
-toldFront (Bad e) = bad (errorNumber e)
-toldFront (Whole frame) = whole (frame .parameters) (frame .good)
 
 unfoldable pub toldOutcome : Outcome → Step
 toldOutcome NoneWhole = none-whole

@@ -7,8 +7,10 @@ use codec::Progress;
 use laws::least;
 use sbc_decode_frame::decode_frame;
 use sbc_filterbank::Synthesis;
+use sbc_look::Front;
+use sbc_look::WholeFrame;
+use sbc_look::look;
 use sbc_parameters::Error;
-use sbc_parameters::Parsed;
 use sbc_parameters::SbcParameters;
 use sbc_parameters::Validated;
 ghost use mathlib.Core.Path.{_≡_};
@@ -17,15 +19,15 @@ ghost use mathlib.Core.List.{_++_};
 ghost use Prim.Native.Nat.{_-_, _*_, _≤_};
 ghost use lib.Dec.{eqb};
 ghost use lib.ListN.{length, take, drop};
-ghost use Rattle.laws.specs.Answers.{gives};
 ghost use Rattle.sbc_parameters.specs.Errors.{errorNumber};
 ghost use Rattle.sbc_parameters.specs.Parameters.{accepted};
 ghost use Rattle.sbc_parameters.specs.Seek.{seekFrame};
 ghost use Rattle.sbc_parameters.specs.Sizes.{frameLength, frameSamples};
 ghost use Rattle.sbc_frame.specs.Layout.{unpack};
-ghost use Rattle.sbc_decoder.specs.Decode.{cleared, play, newDecoder, finish, whole, lookBehind, look, startHistories, refused, shortStep, turnAt, decodeNext, answerOf, decode};
+ghost use Rattle.sbc_look.specs.Look.{whole, look};
+ghost use Rattle.sbc_decoder.specs.Decode.{cleared, play, newDecoder, finish, startHistories, refused, shortStep, turnAt, decodeNext, answerOf, decode};
 ghost use Rattle.codec.specs.Answers.{toldCoded, progressOf};
-ghost use Rattle.sbc_decoder.specs.Told.{toldFront, toldOutcome, toldTurn, toldDecoded};
+ghost use Rattle.sbc_decoder.specs.Told.{toldOutcome, toldTurn, toldDecoded};
 ghost use Rattle.sbc_decoder.specs.Seek.{toldSought, reset, resumed, seekFirst, seekFrom, seek};
 
 // The blocks that the synthesis filterbank remembers.
@@ -52,20 +54,6 @@ pub struct SbcDecoder {
 pub struct DecodeResult {
     pub answer: Coded,
     pub decoder: SbcDecoder,
-}
-
-// A whole frame in front of the input, and whether its byte 3 holds its checksum.
-pub struct WholeFrame {
-    pub parameters: SbcParameters,
-    pub good: bool,
-}
-
-// What stands in front of the input.
-pub enum Front {
-    // Under 3 bytes, or under one frame.
-    Cut,
-    Bad(Error),
-    Whole(WholeFrame),
 }
 
 // How a turn of decode went: no whole frame, a refusal, or a frame that was taken.
@@ -380,45 +368,6 @@ fn refusal_or_progress(error: Error, consumed: usize, produced: usize) -> Coded
         return Coded::Refused(error);
     }
     Coded::Done(Progress { consumed, produced })
-}
-
-// What stands in front of the input. No state, no output.
-fn look(input: &[u8]) -> Front
-    ensures { λ r. ⌜ toldFront r ≡ look (now (input .entry)) ⌝ }
-{
-    let parsed = SbcParameters::parse(input);
-    match parsed {
-        Parsed::Parameters(parameters) => look_behind(parameters, input),
-        Parsed::Refused(error) => {
-            if error.number() == 1 {
-                return Front::Cut;
-            }
-            Front::Bad(error)
-        }
-    }
-}
-
-// The length and the checksum of a frame with these parameters.
-fn look_behind(parameters: SbcParameters, input: &[u8]) -> Front
-    requires { ⌜ accepted parameters ≡ true ⌝ }
-    ensures { λ r. ⌜ toldFront r ≡ lookBehind (now (input .entry)) (gives parameters) ⌝ }
-{
-    let length = parameters.frame_length();
-    if input.len() < length {
-        return Front::Cut;
-    }
-    let checksum = crc8::checksum(&input[..length], parameters.side_bits());
-    Front::Whole(WholeFrame {
-        parameters,
-        good: is_checksum(checksum, input[3]),
-    })
-}
-
-// Whether a byte is the checksum.
-fn is_checksum(checksum: u8, byte: u8) -> bool
-    ensures { λ r. ⌜ r ≡ eqb checksum byte ⌝ }
-{
-    checksum == byte
 }
 
 // Leaves out the first samples of a frame's: the others move to the front, and the places behind them keep what they held.

@@ -10,8 +10,9 @@ use Rattle.sbc_parameters.specs.Errors.{errorNumber}
 use Rattle.sbc_parameters.specs.Parameters.{accepted}
 use Rattle.sbc_parameters.specs.Sizes.{frameLength}
 use Rattle.sbc_parameters.specs.declared.SbcParameters.{SbcParameters}
-use Rattle.sbc_decoder.specs.Decode.{Look, cut, bad, whole, look, unchanged, turnAt, decodeNext}
-use Rattle.sbc_decoder.specs.Told.{toldFront, toldOutcome, toldTurn}
+use Rattle.sbc_look.specs.Look.{Look, cut, bad, whole, look, toldFront}
+use Rattle.sbc_decoder.specs.Decode.{unchanged, turnAt, decodeNext}
+use Rattle.sbc_decoder.specs.Told.{toldOutcome, toldTurn}
 use Rattle.sbc_decoder.proofs.Taking.{look-cases}
 use borrow.Author.Needs.{needs}
 use Rattle.sbc_decoder.proofs.SbcDecoder.decode_next.Statement.{statement}

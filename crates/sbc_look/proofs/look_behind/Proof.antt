@@ -10,11 +10,10 @@ use borrow.Author.Tests.{lt-ltb, le-ltb}
 use Rattle.crc8.specs.Checksum.{checksum}
 use Rattle.sbc_parameters.specs.Sizes.{sideBits, frameLength}
 use Rattle.sbc_parameters.proofs.Accepted.{frame-length-range}
-use Rattle.sbc_decoder.specs.Decode.{lookBehind}
-use Rattle.sbc_decoder.specs.Told.{toldFront}
+use Rattle.sbc_look.specs.Look.{lookBehind, toldFront}
 use borrow.Author.Needs.{needs}
-use Rattle.sbc_decoder.proofs.look_behind.Statement.{statement}
-use Rattle.sbc_decoder.proofs.look_behind.Tie as tie
+use Rattle.sbc_look.proofs.look_behind.Statement.{statement}
+use Rattle.sbc_look.proofs.look_behind.Tie as tie
 
 frame-length-requires : tie.Need-frame-length-requires
 frame-length-requires c κs = search needs

@@ -8,11 +8,10 @@ use Rattle.laws.specs.Answers.{gives}
 use Rattle.sbc_parameters.specs.Errors.{errorNumber}
 use Rattle.sbc_parameters.specs.Header.{toldParsed, parse}
 use Rattle.sbc_parameters.proofs.Parsing.{parsed-accepted}
-use Rattle.sbc_decoder.specs.Decode.{cut, bad, lookBehind, look}
-use Rattle.sbc_decoder.specs.Told.{toldFront}
+use Rattle.sbc_look.specs.Look.{cut, bad, lookBehind, look, toldFront}
 use borrow.Author.Needs.{needs}
-use Rattle.sbc_decoder.proofs.look.Statement.{statement}
-use Rattle.sbc_decoder.proofs.look.Tie as tie
+use Rattle.sbc_look.proofs.look.Statement.{statement}
+use Rattle.sbc_look.proofs.look.Tie as tie
 
 parse-requires : tie.Need-parse-requires
 parse-requires c κs = search needs
