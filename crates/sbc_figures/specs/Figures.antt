@@ -17,6 +17,10 @@ use Rattle.sbc_allocation.specs.Need.{need}
 use Rattle.sbc_allocation.specs.Share.{sum, above, heights, levelPart, levelBits, descend, greatestNeed, leastNeed, levelOf, baseBits, roundGain, roundBits, lastBit, shareAt, share}
 use Rattle.sbc_allocation.specs.Allocate.{channelNeeds, allocateBy, allocate}
 use Rattle.sbc_quantizer.specs.Quantizing.{firstFrom, scaleFactor, quantize, reconstruct}
+use Rattle.sbc_decoder.specs.Decode.{newDecoder, withParameters}
+use Rattle.sbc_decoder.specs.Seek.{requestOf, seekFrom, seekAfter, seek}
+use Rattle.sbc_decoder.specs.declared.SeekRequest.{SeekRequest}
+use Rattle.sbc_decoder.specs.declared.LastParameters.the-variants.{Some}
 use Rattle.sbc_parameters.specs.declared.SbcParameters.{SbcParameters}
 use Rattle.sbc_parameters.specs.declared.SbcChannelMode.the-variants.{Mono, DualChannel}
 use Rattle.sbc_parameters.specs.declared.SbcAllocation.the-variants.{Loudness, Snr}
@@ -63,6 +67,7 @@ unfoldable pub headers : List Figure
 headers =
     numbers (shownSet (parse (0x9C ∷ 0xBD ∷ 0x35 ∷ []))) (shownSet (gives highQuality))
     ∷ numbers (shownSet (parse (0xAD ∷ []))) (1 ∷ [])
+    ∷ numbers (shownSet (parse (0x9C ∷ 0xF5 ∷ 129 ∷ []))) (2 ∷ [])
     ∷ []
 
 -- from 00: 8 bits of 01, 8 bits of 80, 4 bits of 1F
@@ -103,9 +108,13 @@ quantizings =
 unfoldable pub factors : List Figure
 factors = numbers (scaleFactor 8191 ∷ scaleFactor 8192 ∷ scaleFactor (2 ^ 27) ∷ []) (0 ∷ 1 ∷ 15 ∷ []) ∷ []
 
--- mSBC, position 1000: byte offset and skip
+-- mSBC, position 1000: byte offset and skip, of a decoder whose last accepted frame was one of mSBC
+unfoldable pub shownSeek : Told SeekRequest → List ℕ
+shownSeek (gives request) = request .«byte_offset» ∷ request .«skip_frames» ∷ []
+shownSeek (refuses n) = n ∷ []
+
 unfoldable pub seeks : List Figure
-seeks = numbers (seekOffset msbc 1000 ∷ seekSkip msbc 1000 ∷ []) (399 ∷ 160 ∷ []) ∷ []
+seeks = numbers (shownSeek (seek (withParameters (Some msbc) newDecoder) 1000 .answer)) (399 ∷ 160 ∷ []) ∷ []
 
 abbrev pub table : List Figure
 table = sizes ++ (headers ++ (checksums ++ (shares ++ (reconstructions ++ (quantizings ++ (factors ++ seeks))))))
@@ -117,7 +126,7 @@ unfolding sizes headers checksums shares shareSet reconstructions quantizings fa
     allOf indexOf listed odd bitsOf crcStep crcBits
     highQuality msbc sampleRates blockCounts channelModes allocations subbandCounts maximumBitpool isMsbc msbcTests fieldTests accepted validate
     joinCount blockBits audioBits frameLength samplesPerChannel frameSamples
-    fromSettings parse seekFrame seekOffset seekSkip
+    fromSettings parse seekFrame seekOffset seekSkip requestOf seekFrom seekAfter seek withParameters newDecoder shownSeek
     firstFrom scaleFactor quantize reconstruct
     build collect need sum above heights levelPart levelBits descend greatestNeed leastNeed levelOf baseBits roundGain roundBits lastBit shareAt share
     channelNeeds allocateBy allocate

@@ -9,11 +9,11 @@ use Rattle.laws.specs.Choice.{if_then_else_}
 
 -- whether the numbers fit a buffer of this length
 unfoldable pub keeps : ℕ → ℕ → ℕ → Bool
-keeps length used held = leb held length && leb used held
+keeps size used held = leb held size && leb used held
 
 -- how many bytes are kept
 unfoldable pub keptCount : ℕ → ℕ → ℕ → ℕ
-keptCount length used held = if keeps length used held then held - used else 0
+keptCount size used held = if keeps size used held then held - used else 0
 
 -- the buffer's bytes then: the kept ones in front, and the places behind them as they were
 unfoldable pub kept : List ℕ → ℕ → ℕ → List ℕ

@@ -8,10 +8,13 @@ ghost use Rattle.stream.specs.Kept.{keptCount, kept};
 use libc::STDERR_FILENO;
 use libc::STDIN_FILENO;
 
-// Reads once from standard input, behind the first bytes, which are held, and answers how many came: none at the end, or where a read fails.
+// Reads once from standard input, behind the first bytes, which are held and stay, and answers how many came: none at the end, or where a read
+// fails. Which bytes come is the outside's.
 pub fn read_on(bytes: &mut [u8], held: usize) -> usize
     requires { ⌜ held ≤ length (now bytes) ⌝ }
-    ensures { λ r. ⌜ held + r ≤ length (now (bytes .entry)) ⌝ }
+    ensures came { λ r. ⌜ held + r ≤ length (now (bytes .entry)) ⌝ }
+    ensures held { λ r. ⌜ take held (now (bytes .exit)) ≡ take held (now (bytes .entry)) ⌝ }
+    ensures length { λ r. ⌜ length (now (bytes .exit)) ≡ length (now (bytes .entry)) ⌝ }
 {
     read_some(&mut bytes[held..])
 }
