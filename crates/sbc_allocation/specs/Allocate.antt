@@ -32,6 +32,7 @@ rowsTogether bitpool left right =
     let bits = share (leftFirst left right) bitpool in
     rowOf 0 bits ∷ rowOf 1 bits ∷ []
 
+-- dual channel does each channel alone
 unfoldable pub allocateBy : SbcChannelMode → ℕ → List ℤ → List ℤ → List (List ℕ)
 allocateBy Mono bitpool left right = share left bitpool ∷ []
 allocateBy DualChannel bitpool left right = share left bitpool ∷ share right bitpool ∷ []
@@ -45,8 +46,10 @@ allocate p factors =
 
 -- ---- the answer as an array: a table of two channels by eight subbands, 0 where the parameters use no entry
 
+-- a channel's eight entries
 unfoldable pub tableRow : List ℕ → List ℕ
 tableRow bits = take 8 (bits ++ replicate 8 0)
 
+-- left, then right
 unfoldable pub allocationTable : SbcParameters → List (List ℕ) → List (List ℕ)
 allocationTable p factors = tableRow (getD (allocate p factors) 0 []) ∷ tableRow (getD (allocate p factors) 1 []) ∷ []

@@ -1,4 +1,5 @@
--- What the inner parts of quantizing and reconstruction compute. f is a scale factor and b the number of bits of a quantized value.
+-- What the inner parts of quantizing and reconstruction compute. From document 01, "Quantizing".
+-- f is a scale factor and b the number of bits of a quantized value.
 use mathlib.Core.Path.{_≡_}
 use Prim.Native.Nat.{ℕ, _+_, _-_, _/_, _%_, _^_, _≤_, _<_, min}
 use lib.IntN.{ℤ, pos, negsuc}

@@ -1,5 +1,6 @@
 -- How the code of the synthesis takes the sums in parts, for the contracts of its inner functions alone: samples whose cosines are equal or
 -- opposite are added or subtracted first, and the outputs are summed vector by vector. Nothing public cites this.
+-- From document 01, "Filterbanks": "The Rust's folding and ring must equal these sums."
 use Prim.Native.Nat.{ℕ, _+_, _*_, _-_, _/_, _%_, _^_, _≤_, _<_}
 use mathlib.Core.Path.{_≡_}
 use mathlib.Core.List.{List}
