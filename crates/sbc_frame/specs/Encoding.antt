@@ -68,14 +68,14 @@ codedValues p samples factors =
     (λ c. build (p .subbands) (λ s. quantize (codedAt p samples b c s) (getD (getD factors c []) s 0) (widthAt p factors c s))))
 
 -- all fields, from the subband samples of the channels
-unfoldable pub coded : SbcParameters → (ℕ → List (List ℤ)) → Fields
-coded p samples =
+unfoldable pub codedFields : SbcParameters → (ℕ → List (List ℤ)) → Fields
+codedFields p samples =
     let factors = codedFactors p samples in
     record { join = build (joinCount p) (isJoined p samples); factors = factors; values = codedValues p samples factors }
 
 -- the fields of a frame with this PCM
 unfoldable pub encodeFields : SbcParameters → List (List ℤ) → List ℤ → Fields
-encodeFields p histories pcm = coded p (channelSamples p histories pcm)
+encodeFields p histories pcm = codedFields p (channelSamples p histories pcm)
 
 -- the histories after the frame; a channel that the set does not have keeps its own
 unfoldable pub analysisHistories : SbcParameters → List (List ℤ) → List ℤ → List (List ℤ)
