@@ -46,7 +46,7 @@ pub record State : Type 0 where
 pub record Result : Type 0 where
   pub answer : Told Progress
   pub n : ℕ
-  pub heard : List ℤ
+  pub output : List ℤ
 
 -- what an action leaves, and what it gives
 pub record After : Type 0 where
@@ -60,7 +60,7 @@ module _ (p : SbcParameters) where
       let n = wholeFrames (length pcm) (frameSamples p) (length output) (frameLength p) in
       record {
         state = record { encoder = r .encoder; decoder = s .decoder; stream = s .stream ++ take (n * frameLength p) (r .output) };
-        result = record { answer = r .answer; n = n; heard = [] };
+        result = record { answer = r .answer; n = n; output = [] };
       }
 
   -- where it gives what `encode` says
@@ -72,7 +72,7 @@ module _ (p : SbcParameters) where
   finishedAfter s d =
       record {
         state = record { encoder = s .encoder; decoder = d; stream = s .stream };
-        result = record { answer = gives (progressOf 0 0); n = 0; heard = [] };
+        result = record { answer = gives (progressOf 0 0); n = 0; output = [] };
       }
 
   -- the piece of a decode call
@@ -88,7 +88,7 @@ module _ (p : SbcParameters) where
             record {
               answer = r .answer;
               n = wholeFrames (length (pieceOf s start size)) (frameLength p) (length output) (frameSamples p);
-              heard = r .output;
+              output = r .output;
             };
       }
 
@@ -132,7 +132,7 @@ pub data AllAlike (c : ℕ) : List Action → List Action → Type 0 where
 pub record SameResult (p : SbcParameters) (c : ℕ) (x y : Result) : Type 0 where
   pub answer : x .answer ≡ y .answer
   pub n : x .n ≡ y .n
-  pub heard : SamePlaces c (x .n * frameSamples p) (x .heard) (y .heard)
+  pub output : SamePlaces c (x .n * frameSamples p) (x .output) (y .output)
 
 -- of each call, in call order
 pub data SameResults (p : SbcParameters) (c : ℕ) : List Result → List Result → Type 0 where
