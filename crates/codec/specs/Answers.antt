@@ -8,10 +8,12 @@ use Rattle.codec.specs.declared.Progress.{Progress}
 use Rattle.codec.specs.declared.Coded.{Coded}
 use Rattle.codec.specs.declared.Coded.the-variants.{Done, Refused}
 
+-- the progress, or the number of the refusal
 unfoldable pub toldCoded : Coded → Told Progress
 toldCoded (Done progress) = gives progress
 toldCoded (Refused e) = refuses (errorNumber e)
 
+-- what a call consumed and what it produced
 unfoldable pub progressOf : ℕ → ℕ → Progress
 progressOf consumed produced = record { consumed = consumed; produced = produced }
 
@@ -19,6 +21,7 @@ progressOf consumed produced = record { consumed = consumed; produced = produced
 unfoldable pub isStalled : Progress → Bool
 isStalled progress = eqb (progress .consumed) 0 && eqb (progress .produced) 0
 
+-- the progress of one part of a call and of the rest, together
 unfoldable pub addProgress : Progress → Progress → Progress
 addProgress a b = record { consumed = a .consumed + b .consumed; produced = a .produced + b .produced }
 

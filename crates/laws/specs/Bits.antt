@@ -5,6 +5,7 @@ use mathlib.Core.List.{List, [], _∷_, _++_}
 use lib.Dec.{eqb}
 use lib.ListN.{length, take, drop}
 
+-- the low bit is 1
 unfoldable pub odd : ℕ → Bool
 odd v = eqb (v % 2) 1
 
@@ -13,6 +14,7 @@ unfoldable pub bitsOf : ℕ → ℕ → List Bool
 bitsOf zero v = []
 bitsOf (suc n) v = odd (v / 2 ^ n) ∷ bitsOf n v
 
+-- a bit as a number
 unfoldable pub digit : Bool → ℕ
 digit true = 1
 digit false = 0

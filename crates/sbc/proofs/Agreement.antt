@@ -48,7 +48,7 @@ module _ (p : SbcParameters) (a : accepted p ≡ true) (dual : p .«channel_mode
       let r = encode-same p dual c hc a (s₁ .encoder) (s₂ .encoder) (g .encoder) xs ys o₁ o₂ lx sx lo in
       let written₂ = ap (λ k. take (k * frameLength p) (encode (s₂ .encoder) ys o₂ .output)) (sym en) ∙ r .written₂ in
       record {
-        result = record { answer = r .answer; n = en; heard = λ i h e. refl };
+        result = record { answer = r .answer; n = en; output = λ i h e. refl };
         state =
             record {
               encoder = r .encoder;
@@ -84,7 +84,7 @@ module _ (p : SbcParameters) (a : accepted p ≡ true) (dual : p .«channel_mode
             record {
               answer = r .answer;
               n = ap₂ (λ i o. wholeFrames i (frameLength p) o (frameSamples p)) li lo;
-              heard = r .heard;
+              output = r .output;
             };
         state =
             record {
@@ -104,7 +104,7 @@ module _ (p : SbcParameters) (a : accepted p ≡ true) (dual : p .«channel_mode
   action-keeps (both-encode {xs} {ys} {out₁} {out₂} lx sx lo) s₁ s₂ g = encodes-keep s₁ s₂ g xs ys out₁ out₂ lx sx lo
   action-keeps both-finish s₁ s₂ g =
       record {
-        result = record { answer = refl; n = refl; heard = λ i h e. refl };
+        result = record { answer = refl; n = refl; output = λ i h e. refl };
         state =
             record {
               encoder = g .encoder;

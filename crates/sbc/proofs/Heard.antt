@@ -132,7 +132,7 @@ module _ (p : SbcParameters) (dual : p .«channel_mode» ≡ DualChannel) (c : �
   pub record SameDecoded (n : ℕ) (r₁ r₂ : Decoded) : Type 0 where
     pub answer : r₁ .answer ≡ r₂ .answer
     pub decoder : SameDecoder c (r₁ .decoder) (r₂ .decoder)
-    pub heard : SamePlaces c (n * frameSamples p) (r₁ .output) (r₂ .output)
+    pub output : SamePlaces c (n * frameSamples p) (r₁ .output) (r₂ .output)
 
   -- two calls on pieces of the same place and size
   pub decode-same : accepted p ≡ true → {fs gs : List Fields} → SameFrames p c fs gs → (len : ℕ) (d₁ d₂ : SbcDecoder) → SameDecoder c d₁ d₂
@@ -157,7 +157,7 @@ module _ (p : SbcParameters) (dual : p .«channel_mode» ≡ DualChannel) (c : �
       (record {
         answer = λ i. answerOf (progressOf (n * frameLength p) (n * frameSamples p)) (endingFor p (s .finishing i) (li i - n * frameLength p));
         decoder = decoders-same first d₁ d₂ s;
-        heard = λ i h e.
+        output = λ i h e.
             List·getD-append (samplesOf p (take n fs) d₁) _ (pos 0) i (omega (arith, length-first p n fs d₁ there₁))
             ∙ samples-same first d₁ d₂ s i e
             ∙ sym (List·getD-append (samplesOf p (take n gs) d₂) _ (pos 0) i (omega (arith, length-first p n gs d₂ there₂)));

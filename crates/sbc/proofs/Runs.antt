@@ -44,7 +44,7 @@ pub data Took (p : SbcParameters) : Action → Result → Type 0 where
       → Answered (r .n) (frameSamples p) (frameLength p) (r .answer) → Took p (encodes pcm output) r
   finishing : {r : Result} → r .answer ≡ gives (progressOf 0 0) → Took p finishes r
   decoding : {start size : ℕ} {output : List ℤ} {r : Result} → Answered (r .n) (frameLength p) (frameSamples p) (r .answer)
-      → length (r .heard) ≡ length output → Took p (decodes start size output) r
+      → length (r .output) ≡ length output → Took p (decodes start size output) r
 
 pub data AllTook (p : SbcParameters) : List Action → List Result → Type 0 where
   none : AllTook p [] []

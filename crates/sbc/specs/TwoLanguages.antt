@@ -1,4 +1,4 @@
--- Two languages: in dual channel, what one channel's listener hears, and every answer, depends on that channel's samples only.
+-- Two languages: in dual channel, what decode writes of one channel, and every answer, depends on that channel's samples only.
 -- From document 01, "The words of demand 3".
 use Prim.Native.Nat.{ℕ, _*_, _%_, _<_}
 use mathlib.Core.Path.{_≡_}
@@ -31,9 +31,11 @@ pub data Action : Type 0 where
   -- finishing is set
   finishes : Action
   -- a decode call: the frame of the stream that its piece begins at, the length of the piece, and its output before the call. 01 lets a
-  -- piece begin behind all frames that earlier decode calls took; here it may begin at any frame. It is cut where the stream ends
+  -- piece begin behind all frames that earlier decode calls took; here it may begin at any frame. It is cut where the stream ends.
+  -- An n depends on lengths only, so 01's starts, earlier n added up, are alike in both runs
   decodes : ℕ → ℕ → List ℤ → Action
 
+-- what a call is given: the encoder or decoder as the last one left it, and the stream
 pub record State : Type 0 where
   pub encoder : SbcEncoder
   pub decoder : SbcDecoder
@@ -44,22 +46,24 @@ pub record State : Type 0 where
 pub record Result : Type 0 where
   pub answer : Told Progress
   pub n : ℕ
-  pub heard : List ℤ
+  pub output : List ℤ
 
+-- what an action leaves, and what it gives
 pub record After : Type 0 where
   pub state : State
   pub result : Result
 
 module _ (p : SbcParameters) where
-  -- after an encode call
+  -- after an encode call that gave r
   abbrev pub encodedAfter : State → List ℤ → List ℕ → Encoded → After
   encodedAfter s pcm output r =
       let n = wholeFrames (length pcm) (frameSamples p) (length output) (frameLength p) in
       record {
         state = record { encoder = r .encoder; decoder = s .decoder; stream = s .stream ++ take (n * frameLength p) (r .output) };
-        result = record { answer = r .answer; n = n; heard = [] };
+        result = record { answer = r .answer; n = n; output = [] };
       }
 
+  -- where it gives what `encode` says
   unfoldable pub afterEncode : State → List ℤ → List ℕ → After
   afterEncode s pcm output = encodedAfter s pcm output (encode (s .encoder) pcm output)
 
@@ -68,13 +72,14 @@ module _ (p : SbcParameters) where
   finishedAfter s d =
       record {
         state = record { encoder = s .encoder; decoder = d; stream = s .stream };
-        result = record { answer = gives (progressOf 0 0); n = 0; heard = [] };
+        result = record { answer = gives (progressOf 0 0); n = 0; output = [] };
       }
 
-  -- after a decode call
+  -- the piece of a decode call
   abbrev pub pieceOf : State → ℕ → ℕ → List ℕ
   pieceOf s start size = take size (drop (start * frameLength p) (s .stream))
 
+  -- after a decode call that gave r
   abbrev pub decodedAfter : State → ℕ → ℕ → List ℤ → Decoded → After
   decodedAfter s start size output r =
       record {
@@ -83,13 +88,15 @@ module _ (p : SbcParameters) where
             record {
               answer = r .answer;
               n = wholeFrames (length (pieceOf s start size)) (frameLength p) (length output) (frameSamples p);
-              heard = r .output;
+              output = r .output;
             };
       }
 
+  -- where it gives what `decode` says
   unfoldable pub afterDecode : State → ℕ → ℕ → List ℤ → After
   afterDecode s start size output = decodedAfter s start size output (decode (s .decoder) (pieceOf s start size) output)
 
+  -- after any action
   unfoldable pub after : State → Action → After
   after s (encodes pcm output) = afterEncode s pcm output
   after s finishes = finishedAfter s (finish (s .decoder))
@@ -114,17 +121,20 @@ pub data Alike (c : ℕ) : Action → Action → Type 0 where
   both-finish : Alike c finishes finishes
   both-decode : {start size : ℕ} {out₁ out₂ : List ℤ} → length out₁ ≡ length out₂ → Alike c (decodes start size out₁) (decodes start size out₂)
 
+-- alike too is the number of actions
 pub data AllAlike (c : ℕ) : List Action → List Action → Type 0 where
   none : AllAlike c [] []
   one : {a b : Action} {xs ys : List Action} → Alike c a b → AllAlike c xs ys → AllAlike c (a ∷ xs) (b ∷ ys)
 
 -- ---- what follows: each call returns the same, and in the first n * frame_samples places of each decode output those of the channel are equal
 
+-- what is the same in the two results of a call
 pub record SameResult (p : SbcParameters) (c : ℕ) (x y : Result) : Type 0 where
   pub answer : x .answer ≡ y .answer
   pub n : x .n ≡ y .n
-  pub heard : SamePlaces c (x .n * frameSamples p) (x .heard) (y .heard)
+  pub output : SamePlaces c (x .n * frameSamples p) (x .output) (y .output)
 
+-- of each call, in call order
 pub data SameResults (p : SbcParameters) (c : ℕ) : List Result → List Result → Type 0 where
   none : SameResults p c [] []
   one : {x y : Result} {xs ys : List Result} → SameResult p c x y → SameResults p c xs ys → SameResults p c (x ∷ xs) (y ∷ ys)

@@ -20,10 +20,10 @@ use Rattle.sbc_parameters.specs.Parameters.{channels, maximumBitpool, accepted}
 use Rattle.sbc_parameters.proofs.Accepted.{ranges}
 use Rattle.sbc_allocation.specs.Need.{need}
 use Rattle.sbc_allocation.specs.Share.{sum, share}
-use Rattle.sbc_allocation.specs.Allocate.{channelNeeds, leftFirst, rowOf, rowsTogether, allocateBy, allocate, allocationTable}
+use Rattle.sbc_allocation.specs.Allocate.{channelNeeds, leftFirst, channelRow, rowsTogether, allocateBy, allocate, allocationTable}
 use Rattle.sbc_allocation.specs.Shares.{_∈_, Place, placesOf, groupsBy, groups, entryAt, needAt, Fair, SharesFair}
 use Rattle.sbc_allocation.proofs.Sharing.{ByNeed, share-by-need}
-use Rattle.sbc_allocation.proofs.Rows.{length-channelNeeds, length-leftFirst, length-rowOf, allocate-16, table-at}
+use Rattle.sbc_allocation.proofs.Rows.{length-channelNeeds, length-leftFirst, length-channelRow, allocate-16, table-at}
 
 -- ---- the places of a channel
 abbrev place : ℕ → ℕ → Place
@@ -64,14 +64,14 @@ twice-lt c i zero h l = absurd (omega arith)
 twice-lt c zero (suc s) h l = omega arith
 twice-lt c (suc i) (suc s) h l = omega (arith, twice-lt c i s h (omega arith))
 
-rowOf-at : (c i : ℕ) (bits : List ℕ) → c < 2 → i < length (rowOf c bits) → getD (rowOf c bits) i 0 ≡ getD bits (twice i c) 0
-unfolding rowOf twice
-rowOf-at c i [] h l = absurd (omega arith)
-rowOf-at c i (b ∷ []) h l = absurd (omega arith)
-rowOf-at zero zero (b ∷ d ∷ bits) h l = refl
-rowOf-at (suc zero) zero (b ∷ d ∷ bits) h l = refl
-rowOf-at (suc (suc c)) zero (b ∷ d ∷ bits) h l = absurd (omega arith)
-rowOf-at c (suc i) (b ∷ d ∷ bits) h l = rowOf-at c i bits h (omega arith)
+channelRow-at : (c i : ℕ) (bits : List ℕ) → c < 2 → i < length (channelRow c bits) → getD (channelRow c bits) i 0 ≡ getD bits (twice i c) 0
+unfolding channelRow twice
+channelRow-at c i [] h l = absurd (omega arith)
+channelRow-at c i (b ∷ []) h l = absurd (omega arith)
+channelRow-at zero zero (b ∷ d ∷ bits) h l = refl
+channelRow-at (suc zero) zero (b ∷ d ∷ bits) h l = refl
+channelRow-at (suc (suc c)) zero (b ∷ d ∷ bits) h l = absurd (omega arith)
+channelRow-at c (suc i) (b ∷ d ∷ bits) h l = channelRow-at c i bits h (omega arith)
 
 leftFirst-at : (c i : ℕ) (ls rs : List ℤ) → c < 2 → i < length ls → i < length rs
     → getD (leftFirst ls rs) (twice i c) (pos 0) ≡ getD (getD (ls ∷ rs ∷ []) c []) i (pos 0)
@@ -89,8 +89,8 @@ unfolding sum
 sum-append [] ys = omega arith
 sum-append (x ∷ xs) ys = omega (arith, sum-append xs ys)
 
-sum-rows : (s : ℕ) (bits : List ℕ) → length bits ≡ s + s → sum (rowOf 0 bits) + sum (rowOf 1 bits) ≡ sum bits
-unfolding sum rowOf
+sum-rows : (s : ℕ) (bits : List ℕ) → length bits ≡ s + s → sum (channelRow 0 bits) + sum (channelRow 1 bits) ≡ sum bits
+unfolding sum channelRow
 sum-rows s [] h = refl
 sum-rows s (b ∷ []) h = absurd (omega arith)
 sum-rows s (b ∷ d ∷ bits) h = omega (arith, sum-rows (s - 1) bits (omega arith))
@@ -171,14 +171,14 @@ module _ (p : SbcParameters) (factors : List (List ℕ)) where
         shared : ByNeed (p .bitpool) needs bits
         shared = share-by-need needs (p .bitpool) (omega (arith, ranges p accept .bitpool-low)) (omega (arith, needs-both))
 
-        row-is : (c : ℕ) → c < 2 → getD (allocate p factors) c [] ≡ rowOf c bits
+        row-is : (c : ℕ) → c < 2 → getD (allocate p factors) c [] ≡ channelRow c bits
         unfolding rowsTogether
         row-is zero h = ap (λ (t : List (List ℕ)). getD t 0 []) rows-are
         row-is (suc zero) h = ap (λ (t : List (List ℕ)). getD t 1 []) rows-are
         row-is (suc (suc c)) h = absurd (omega arith)
 
-        row-long : (c : ℕ) → c < 2 → length (rowOf c bits) ≡ p .subbands
-        row-long c h = length-rowOf c (p .subbands) bits (shared .one-each ∙ needs-both)
+        row-long : (c : ℕ) → c < 2 → length (channelRow c bits) ≡ p .subbands
+        row-long c h = length-channelRow c (p .subbands) bits (shared .one-each ∙ needs-both)
 
         side : (c : ℕ) → c < 2 → getD (needsOf 0 ∷ needsOf 1 ∷ []) c [] ≡ needsOf c
         side zero h = refl
@@ -195,7 +195,7 @@ module _ (p : SbcParameters) (factors : List (List ℕ)) where
               inside = omega (arith, twice-lt c i (p .subbands) h (at .1), needs-both);
               bits-is =
                   ap (λ (k : ℕ). getD (getD (allocate p factors) k []) i 0) (at .0) ∙ ap (λ (row : List ℕ). getD row i 0) (row-is c h)
-                  ∙ rowOf-at c i bits h (omega (arith, row-long c h, at .1));
+                  ∙ channelRow-at c i bits h (omega (arith, row-long c h, at .1));
               need-is =
                   ap (λ (k : ℕ). needAt p factors (place k i)) (at .0) ∙ need-at c i (omega arith) (at .1)
                   ∙ ap (λ (l : List ℤ). getD l i (pos 0)) (sym (side c h))
@@ -205,7 +205,7 @@ module _ (p : SbcParameters) (factors : List (List ℕ)) where
                   (omega (arith, needs-long 1 (omega arith), at .1)));
             }
 
-        row-of : (c : ℕ) → c < 2 → map (entryAt (allocate p factors)) (placesOf (p .subbands) c) ≡ rowOf c bits
+        row-of : (c : ℕ) → c < 2 → map (entryAt (allocate p factors)) (placesOf (p .subbands) c) ≡ channelRow c bits
         row-of c h = places-row (p .subbands) c (allocate p factors) (ap length (row-is c h) ∙ row-long c h) ∙ row-is c h
 
         together : Fair (p .bitpool) (entryAt (allocate p factors)) (needAt p factors) (placesOf (p .subbands) 0 ++ placesOf (p .subbands) 1)
@@ -214,7 +214,7 @@ module _ (p : SbcParameters) (factors : List (List ℕ)) where
             (ap sum
             (map-append (entryAt (allocate p factors)) (placesOf (p .subbands) 0) (placesOf (p .subbands) 1)
             ∙ ap₂ _++_ (row-of 0 (lit< tt)) (row-of 1 (lit< tt)))
-            ∙ sum-append (rowOf 0 bits) (rowOf 1 bits) ∙ sum-rows (p .subbands) bits (shared .one-each ∙ needs-both))
+            ∙ sum-append (channelRow 0 bits) (channelRow 1 bits) ∙ sum-rows (p .subbands) bits (shared .one-each ∙ needs-both))
             (λ x m. either x (List·Memᴰ·append-cases (placesOf (p .subbands) 0) m))
           where
             either : (x : Place) → (x ∈ placesOf (p .subbands) 0) ⊎ (x ∈ placesOf (p .subbands) 1) → Spot needs bits x

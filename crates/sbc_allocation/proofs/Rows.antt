@@ -15,7 +15,7 @@ use Rattle.sbc_parameters.specs.declared.SbcParameters.{SbcParameters}
 use Rattle.sbc_parameters.specs.Parameters.{channelsOf, channels}
 use Rattle.sbc_allocation.specs.Need.{need}
 use Rattle.sbc_allocation.specs.Share.{share}
-use Rattle.sbc_allocation.specs.Allocate.{channelNeeds, leftFirst, rowOf, rowsTogether, allocateBy, allocate, tableRow, allocationTable}
+use Rattle.sbc_allocation.specs.Allocate.{channelNeeds, leftFirst, channelRow, rowsTogether, allocateBy, allocate, tableRow, allocationTable}
 use Rattle.sbc_allocation.proofs.Sharing.{share-16, length-share}
 
 -- ---- lengths
@@ -29,11 +29,11 @@ length-leftFirst s [] rs l r = omega arith
 length-leftFirst s (x ∷ ls) [] l r = omega arith
 length-leftFirst s (x ∷ ls) (y ∷ rs) l r = omega (arith, length-leftFirst (s - 1) ls rs (omega arith) (omega arith))
 
-pub length-rowOf : (channel s : ℕ) (bits : List ℕ) → length bits ≡ s + s → length (rowOf channel bits) ≡ s
-unfolding rowOf
-length-rowOf channel s [] h = omega arith
-length-rowOf channel s (l ∷ []) h = omega arith
-length-rowOf channel s (l ∷ r ∷ bits) h = omega (arith, length-rowOf channel (s - 1) bits (omega arith))
+pub length-channelRow : (channel s : ℕ) (bits : List ℕ) → length bits ≡ s + s → length (channelRow channel bits) ≡ s
+unfolding channelRow
+length-channelRow channel s [] h = omega arith
+length-channelRow channel s (l ∷ []) h = omega arith
+length-channelRow channel s (l ∷ r ∷ bits) h = omega (arith, length-channelRow channel (s - 1) bits (omega arith))
 
 module _ (bitpool s : ℕ) (left right : List ℤ) where
   length-by : (mode : SbcChannelMode) → length (allocateBy mode bitpool left right) ≡ channelsOf mode
@@ -46,9 +46,9 @@ module _ (bitpool s : ℕ) (left right : List ℤ) where
   together-long : (c : ℕ) → c < 2 → length left ≡ s → length right ≡ s → length (getD (rowsTogether bitpool left right) c []) ≡ s
   unfolding rowsTogether
   together-long zero h l r =
-      length-rowOf 0 s (share (leftFirst left right) bitpool) (length-share (leftFirst left right) bitpool ∙ length-leftFirst s left right l r)
+      length-channelRow 0 s (share (leftFirst left right) bitpool) (length-share (leftFirst left right) bitpool ∙ length-leftFirst s left right l r)
   together-long (suc zero) h l r =
-      length-rowOf 1 s (share (leftFirst left right) bitpool) (length-share (leftFirst left right) bitpool ∙ length-leftFirst s left right l r)
+      length-channelRow 1 s (share (leftFirst left right) bitpool) (length-share (leftFirst left right) bitpool ∙ length-leftFirst s left right l r)
   together-long (suc (suc c)) h l r = absurd (omega arith)
 
   rows-by : (mode : SbcChannelMode) → (0 < channelsOf mode → length left ≡ s) → (1 < channelsOf mode → length right ≡ s)
@@ -129,12 +129,12 @@ pair-small zero l r a b = a
 pair-small (suc zero) l r a b = b
 pair-small (suc (suc channel)) l r a b = omega arith
 
-rowOf-small : (channel : ℕ) (bits : List ℕ) → Small bits → Small (rowOf channel bits)
-unfolding rowOf
-rowOf-small channel [] f i = omega arith
-rowOf-small channel (l ∷ []) f i = omega arith
-rowOf-small channel (l ∷ r ∷ bits) f zero = pair-small channel l r (f 0) (f 1)
-rowOf-small channel (l ∷ r ∷ bits) f (suc i) = rowOf-small channel bits (λ j. f (suc (suc j))) i
+channelRow-small : (channel : ℕ) (bits : List ℕ) → Small bits → Small (channelRow channel bits)
+unfolding channelRow
+channelRow-small channel [] f i = omega arith
+channelRow-small channel (l ∷ []) f i = omega arith
+channelRow-small channel (l ∷ r ∷ bits) f zero = pair-small channel l r (f 0) (f 1)
+channelRow-small channel (l ∷ r ∷ bits) f (suc i) = channelRow-small channel bits (λ j. f (suc (suc j))) i
 
 two-small : (a b : List ℕ) → Small a → Small b → (channel : ℕ) → Small (getD (a ∷ b ∷ []) channel [])
 two-small a b f g zero = f
@@ -147,7 +147,7 @@ module _ (bitpool : ℕ) (left right : List ℤ) where
   together-small =
       let bits = share (leftFirst left right) bitpool in
       let small = share-16 (leftFirst left right) bitpool in
-      two-small (rowOf 0 bits) (rowOf 1 bits) (rowOf-small 0 bits small) (rowOf-small 1 bits small)
+      two-small (channelRow 0 bits) (channelRow 1 bits) (channelRow-small 0 bits small) (channelRow-small 1 bits small)
 
   small-by : (mode : SbcChannelMode) (channel : ℕ) → Small (getD (allocateBy mode bitpool left right) channel [])
   unfolding allocateBy

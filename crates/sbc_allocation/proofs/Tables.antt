@@ -11,11 +11,11 @@ use Rattle.laws.specs.Lists.{collect, build}
 use Rattle.sbc_parameters.specs.declared.SbcParameters.{SbcParameters}
 use Rattle.sbc_allocation.specs.Need.{need}
 use Rattle.sbc_allocation.specs.Share.{sum, levelOf, baseBits, roundBits, lastBit, shareAt, share}
-use Rattle.sbc_allocation.specs.Allocate.{channelNeeds, leftFirst, rowOf, tableRow}
+use Rattle.sbc_allocation.specs.Allocate.{channelNeeds, leftFirst, channelRow, tableRow}
 use Rattle.sbc_allocation.specs.Raised.{lowered, excesses, entries}
 use Rattle.sbc_allocation.proofs.Levels.{heights-lowered}
 use Rattle.sbc_allocation.proofs.Sharing.{length-round, length-share}
-use Rattle.sbc_allocation.proofs.Rows.{length-channelNeeds, length-rowOf}
+use Rattle.sbc_allocation.proofs.Rows.{length-channelNeeds, length-channelRow}
 
 -- ---- zeros behind a group's bits
 pub sum-padded : (xs : List ℕ) (n : ℕ) → sum (xs ++ replicate n 0) ≡ sum xs
@@ -85,13 +85,13 @@ spread (suc n) (x ∷ xs) h = ap (λ (l : List ℕ). x ∷ l) (spread n xs (omeg
 pub first-entries : (xs : List ℕ) → length xs ≡ 16 → entries 8 (λ i. getD xs i 0) ≡ take 8 xs
 first-entries xs long = sym (ap (λ (l : List ℕ). take 8 l) (spread 16 xs long))
 
-pub left-entries : (xs : List ℕ) → length xs ≡ 16 → entries 8 (λ i. getD xs (2 * i) 0) ≡ rowOf 0 xs
-unfolding rowOf
-left-entries xs long = sym (ap (λ (l : List ℕ). rowOf 0 l) (spread 16 xs long))
+pub left-entries : (xs : List ℕ) → length xs ≡ 16 → entries 8 (λ i. getD xs (2 * i) 0) ≡ channelRow 0 xs
+unfolding channelRow
+left-entries xs long = sym (ap (λ (l : List ℕ). channelRow 0 l) (spread 16 xs long))
 
-pub right-entries : (xs : List ℕ) → length xs ≡ 16 → entries 8 (λ i. getD xs (2 * i + 1) 0) ≡ rowOf 1 xs
-unfolding rowOf
-right-entries xs long = sym (ap (λ (l : List ℕ). rowOf 1 l) (spread 16 xs long))
+pub right-entries : (xs : List ℕ) → length xs ≡ 16 → entries 8 (λ i. getD xs (2 * i + 1) 0) ≡ channelRow 1 xs
+unfolding channelRow
+right-entries xs long = sym (ap (λ (l : List ℕ). channelRow 1 l) (spread 16 xs long))
 
 same-leftFirst : {a b x y : List ℕ} → a ≡ x → b ≡ y → leftFirst x y ≡ leftFirst a b
 same-leftFirst e f = cc
@@ -118,31 +118,31 @@ unfolding tableRow
 row-alone bits n long h = any-zeros 8 bits (16 - n) 8 (omega arith) (omega arith)
 
 -- ---- a row of the table, from the bits of both channels
-rowOf-append : (channel s : ℕ) (xs ys : List ℕ) → length xs ≡ s + s → rowOf channel (xs ++ ys) ≡ rowOf channel xs ++ rowOf channel ys
-unfolding rowOf
-rowOf-append channel s [] ys h = refl
-rowOf-append channel s (l ∷ []) ys h = absurd (omega arith)
-rowOf-append channel s (l ∷ r ∷ xs) ys h =
-    ap (λ (t : List ℕ). getD (l ∷ r ∷ []) channel 0 ∷ t) (rowOf-append channel (s - 1) xs ys (omega arith))
+channelRow-append : (channel s : ℕ) (xs ys : List ℕ) → length xs ≡ s + s → channelRow channel (xs ++ ys) ≡ channelRow channel xs ++ channelRow channel ys
+unfolding channelRow
+channelRow-append channel s [] ys h = refl
+channelRow-append channel s (l ∷ []) ys h = absurd (omega arith)
+channelRow-append channel s (l ∷ r ∷ xs) ys h =
+    ap (λ (t : List ℕ). getD (l ∷ r ∷ []) channel 0 ∷ t) (channelRow-append channel (s - 1) xs ys (omega arith))
 
-rowOf-zeros : (channel m n : ℕ) → n ≡ m + m → rowOf channel (replicate n 0) ≡ replicate m 0
-unfolding rowOf
-rowOf-zeros channel zero zero h = refl
-rowOf-zeros channel zero (suc n) h = absurd (omega arith)
-rowOf-zeros channel (suc m) zero h = absurd (omega arith)
-rowOf-zeros channel (suc m) (suc zero) h = absurd (omega arith)
-rowOf-zeros zero (suc m) (suc (suc n)) h = ap (λ (t : List ℕ). 0 ∷ t) (rowOf-zeros 0 m n (omega arith))
-rowOf-zeros (suc zero) (suc m) (suc (suc n)) h = ap (λ (t : List ℕ). 0 ∷ t) (rowOf-zeros 1 m n (omega arith))
-rowOf-zeros (suc (suc channel)) (suc m) (suc (suc n)) h = ap (λ (t : List ℕ). 0 ∷ t) (rowOf-zeros (suc (suc channel)) m n (omega arith))
+channelRow-zeros : (channel m n : ℕ) → n ≡ m + m → channelRow channel (replicate n 0) ≡ replicate m 0
+unfolding channelRow
+channelRow-zeros channel zero zero h = refl
+channelRow-zeros channel zero (suc n) h = absurd (omega arith)
+channelRow-zeros channel (suc m) zero h = absurd (omega arith)
+channelRow-zeros channel (suc m) (suc zero) h = absurd (omega arith)
+channelRow-zeros zero (suc m) (suc (suc n)) h = ap (λ (t : List ℕ). 0 ∷ t) (channelRow-zeros 0 m n (omega arith))
+channelRow-zeros (suc zero) (suc m) (suc (suc n)) h = ap (λ (t : List ℕ). 0 ∷ t) (channelRow-zeros 1 m n (omega arith))
+channelRow-zeros (suc (suc channel)) (suc m) (suc (suc n)) h = ap (λ (t : List ℕ). 0 ∷ t) (channelRow-zeros (suc (suc channel)) m n (omega arith))
 
 pub row-channel : (channel s n : ℕ) (bits : List ℕ) → n ≡ s + s → length bits ≡ n → s ≤ 8
-    → rowOf channel (bits ++ replicate (16 - n) 0) ≡ tableRow (rowOf channel bits)
+    → channelRow channel (bits ++ replicate (16 - n) 0) ≡ tableRow (channelRow channel bits)
 unfolding tableRow
 row-channel channel s n bits both long eight =
-    let row = rowOf channel bits in
-    let row-long = length-rowOf channel s bits (long ∙ both) in
-    rowOf-append channel s bits (replicate (16 - n) 0) (long ∙ both)
-    ∙ ap (λ (t : List ℕ). row ++ t) (rowOf-zeros channel (8 - s) (16 - n) (omega arith))
+    let row = channelRow channel bits in
+    let row-long = length-channelRow channel s bits (long ∙ both) in
+    channelRow-append channel s bits (replicate (16 - n) 0) (long ∙ both)
+    ∙ ap (λ (t : List ℕ). row ++ t) (channelRow-zeros channel (8 - s) (16 - n) (omega arith))
     ∙ sym (take-all 8 (row ++ replicate (8 - s) 0) (omega (arith, length-append row (replicate (8 - s) 0), length-replicate {A = ℕ} (8 - s) 0)))
     ∙ any-zeros 8 row (8 - s) 8 (omega arith) (omega arith)
 

@@ -21,17 +21,18 @@ leftFirst (l ∷ ls) [] = []
 leftFirst (l ∷ ls) (r ∷ rs) = l ∷ r ∷ leftFirst ls rs
 
 -- a channel's entries of bits in that order: channel 0 is left, 1 is right
-unfoldable pub rowOf : ℕ → List ℕ → List ℕ
-rowOf channel [] = []
-rowOf channel (l ∷ []) = []
-rowOf channel (l ∷ r ∷ bits) = getD (l ∷ r ∷ []) channel 0 ∷ rowOf channel bits
+unfoldable pub channelRow : ℕ → List ℕ → List ℕ
+channelRow channel [] = []
+channelRow channel (l ∷ []) = []
+channelRow channel (l ∷ r ∷ bits) = getD (l ∷ r ∷ []) channel 0 ∷ channelRow channel bits
 
 -- the rows of both channels, whose needs are one group
 unfoldable pub rowsTogether : ℕ → List ℤ → List ℤ → List (List ℕ)
 rowsTogether bitpool left right =
     let bits = share (leftFirst left right) bitpool in
-    rowOf 0 bits ∷ rowOf 1 bits ∷ []
+    channelRow 0 bits ∷ channelRow 1 bits ∷ []
 
+-- dual channel does each channel alone
 unfoldable pub allocateBy : SbcChannelMode → ℕ → List ℤ → List ℤ → List (List ℕ)
 allocateBy Mono bitpool left right = share left bitpool ∷ []
 allocateBy DualChannel bitpool left right = share left bitpool ∷ share right bitpool ∷ []
@@ -45,8 +46,10 @@ allocate p factors =
 
 -- ---- the answer as an array: a table of two channels by eight subbands, 0 where the parameters use no entry
 
+-- a channel's eight entries
 unfoldable pub tableRow : List ℕ → List ℕ
 tableRow bits = take 8 (bits ++ replicate 8 0)
 
+-- left, then right
 unfoldable pub allocationTable : SbcParameters → List (List ℕ) → List (List ℕ)
 allocationTable p factors = tableRow (getD (allocate p factors) 0 []) ∷ tableRow (getD (allocate p factors) 1 []) ∷ []

@@ -23,6 +23,7 @@ abbrev pub loudnessNeed : ℤ → ℕ → ℤ
 loudnessNeed offset zero = minus 5
 loudnessNeed offset (suc factor) = halved (pos (suc factor) -ℤ offset)
 
+-- SNR: need = scale factor
 abbrev pub needBy : SbcAllocation → ℤ → ℕ → ℤ
 needBy Snr offset factor = pos factor
 needBy Loudness offset factor = loudnessNeed offset factor

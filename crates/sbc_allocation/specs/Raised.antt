@@ -1,4 +1,4 @@
--- The code's levels and needs stand 32 higher, so that they are natural numbers.
+-- The code's levels and needs stand 32 higher, so that they are natural numbers. From document 01, "Need and share".
 use mathlib.Core.List.{List, [], _∷_, map}
 use Prim.Native.Nat.{ℕ, zero, suc, _-_, _≤_, _<_, min, max}
 use lib.ListN.{length, getD}

@@ -8,19 +8,23 @@ use lib.IntN.{ℤ, pos, negsuc, predℤ, _-ℤ_}
 use lib.Signed.{leZ}
 use Rattle.laws.specs.Choice.{if_then_else_}
 
+-- the entries of a list, added
 unfoldable pub sum : List ℕ → ℕ
 sum [] = 0
 sum (x ∷ xs) = x + sum xs
 
 -- ---- how far needs stand above a level v: need - v, and 0 where that is negative
 
+-- a negative number counts as 0
 abbrev pub atLeast0 : ℤ → ℕ
 atLeast0 (pos k) = k
 atLeast0 (negsuc k) = 0
 
+-- how far one need stands above v
 unfoldable pub above : ℤ → ℤ → ℕ
 above v n = atLeast0 (n -ℤ v)
 
+-- how far each need stands above v
 unfoldable pub heights : ℤ → List ℤ → List ℕ
 heights v needs = map (above v) needs
 
@@ -30,6 +34,7 @@ heights v needs = map (above v) needs
 unfoldable pub levelPart : ℕ → ℕ
 levelPart k = if eqb k 1 then 2 else if leb 2 k && leb k 15 then 1 else 0
 
+-- what all needs add at a level
 unfoldable pub levelBits : List ℕ → ℕ
 levelBits ks = sum (map levelPart ks)
 
@@ -83,6 +88,7 @@ lastBit zero bits = bits
 lastBit (suc left) [] = []
 lastBit (suc left) (b ∷ bs) = if ltb b 16 then (b + 1) ∷ bs else b ∷ lastBit (suc left) bs
 
+-- base, round and last bit: what the round leaves goes to the first with fewer than 16
 unfoldable pub shareAt : List ℕ → ℕ → List ℕ
 shareAt ks bitpool =
     let bits = roundBits ks (bitpool - sum (map baseBits ks)) in

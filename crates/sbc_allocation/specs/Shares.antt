@@ -32,12 +32,14 @@ pub record Place : Type 0 where
 unfoldable pub placesOf : ℕ → ℕ → List Place
 placesOf S channel = build S (λ i. record { channel = channel; subband = i })
 
+-- by channel mode
 unfoldable pub groupsBy : SbcChannelMode → ℕ → List (List Place)
 groupsBy Mono S = placesOf S 0 ∷ []
 groupsBy DualChannel S = placesOf S 0 ∷ placesOf S 1 ∷ []
 groupsBy Stereo S = (placesOf S 0 ++ placesOf S 1) ∷ []
 groupsBy JointStereo S = (placesOf S 0 ++ placesOf S 1) ∷ []
 
+-- the groups of a set
 unfoldable pub groups : SbcParameters → List (List Place)
 groups p = groupsBy (p .«channel_mode») (p .subbands)
 

@@ -26,7 +26,7 @@ use Rattle.laws.proofs.Linear.{coefficient, folded, sum-of, difference-of}
 use Rattle.laws.proofs.Table.{eqZ, eqZ→eq, allBelow, at, table-within}
 use Rattle.sbc_tables.specs.Tables.{cosines}
 use Rattle.sbc_filterbank.specs.Subbands.{Bands, cosineAt, padded}
-use Rattle.sbc_filterbank.specs.Analysis.{windowed, analysisCosine, subbandTerm, subband, analysisOutputs}
+use Rattle.sbc_filterbank.specs.Analysis.{windowed, analysisCosine, subbandTerm, subbandSample, analysisOutputs}
 use Rattle.sbc_filterbank.specs.Matrices.{Part}
 use Rattle.sbc_analyze.specs.Fold.{foldSign, foldMirror, foldColumn, analysisColumns, columnTerm, columnSum, outputSum, outputValue}
 use Rattle.sbc_filterbank.proofs.Bands.{for-bands, bands-le, padded-is}
@@ -204,16 +204,16 @@ pub outputs-is : {S : ℕ} (X Y F even odd out : List ℤ) → Bands S → Y ≡
     → F ≡ build 8 (upTo S (foldColumn S (λ k. getD Y k (pos 0))))
     → even ≡ build 4 (upTo (S / 2) (columnSum S F 0)) → odd ≡ build 4 (upTo (S / 2) (columnSum S F 1))
     → out ≡ build 8 (upTo S (outputValue S (λ k. getD even k (pos 0)) (λ k. getD odd k (pos 0)))) → out ≡ padded (analysisOutputs S X)
-unfolding outputValue subband analysisOutputs
+unfolding outputValue subbandSample analysisOutputs
 outputs-is {S} X Y F even odd out b y f e o r =
     r
-    ∙ filled-ext 8 S _ (subband S (windowed S X))
+    ∙ filled-ext 8 S _ (subbandSample S (windowed S X))
     (λ i h. ap (λ z. floorDiv z (2 ^ 33))
     (output-ext (λ k. getD even k (pos 0)) (λ k. getD odd k (pos 0)) _ _ i b h (entry even 0 e) (entry odd 1 o)
     ∙ output-sum-is (λ k. getD Y k (pos 0)) F b (λ c p. getD-filled 8 S (foldColumn S (λ k. getD Y k (pos 0))) F c f p (bands-le b)) i h
     ∙ sumZ-ext (2 * S) _ _ (λ k p. ap (λ z. analysisCosine S i k *ℤ z)
     (getD-filled 16 (2 * S) (windowed S X) Y k y p (for-bands (λ s. 2 * s ≤ 16) b (lit≤ tt) (lit≤ tt))))))
-    ∙ padded-is S (subband S (windowed S X)) (bands-le b)
+    ∙ padded-is S (subbandSample S (windowed S X)) (bands-le b)
   where
     entry : (xs : List ℤ) (n : ℕ) → xs ≡ build 4 (upTo (S / 2) (columnSum S F n)) → (k : ℕ) → k < S / 2
         → getD xs k (pos 0) ≡ columnSum S F n k

@@ -21,59 +21,59 @@ use Rattle.laws.proofs.Cases.{by-test}
 use Rattle.laws.proofs.Arrays.{build-set}
 use Rattle.laws.proofs.Lists.{length-build, getD-build, getD-build-out, build-is, build-ext}
 use Rattle.sbc_filterbank.specs.Analysis.{shifted, shiftedAt}
-use Rattle.sbc_analyze.specs.Fold.{joinAt, movedUp, entering}
+use Rattle.sbc_analyze.specs.Fold.{splicedAt, movedUp, entering}
 
 module _ (n : ℕ) (f g : ℕ → ℤ) where
-  join-below : (k : ℕ) → k < n → joinAt n f g k ≡ f k
-  join-below k h = rw (lt-ltb k n h)
+  spliced-below : (k : ℕ) → k < n → splicedAt n f g k ≡ f k
+  spliced-below k h = rw (lt-ltb k n h)
 
-  join-from : (k : ℕ) → n ≤ k → joinAt n f g k ≡ g k
-  join-from k h = rw (le-ltb k n h)
+  spliced-from : (k : ℕ) → n ≤ k → splicedAt n f g k ≡ g k
+  spliced-from k h = rw (le-ltb k n h)
 
   -- two joins at neighbouring places agree elsewhere
-  join-next : (k : ℕ) → k ≢ n → joinAt n f g k ≡ joinAt (n + 1) f g k
-  join-next k ne =
-      by-test (λ z. z ≡ joinAt (n + 1) f g k) (ltb k n) (f k) (g k)
+  spliced-next : (k : ℕ) → k ≢ n → splicedAt n f g k ≡ splicedAt (n + 1) f g k
+  spliced-next k ne =
+      by-test (λ z. z ≡ splicedAt (n + 1) f g k) (ltb k n) (f k) (g k)
       (λ e. sym (rw (lt-ltb k (n + 1) (omega (arith, ltb-true k n e)))))
       (λ e. sym (rw (le-ltb k (n + 1) (omega (arith, ltb-false k n e)))))
 
 -- ---- the two loops' stores, as the machine reads back what is stored
 module _ (n : ℕ) (f g : ℕ → ℤ) (k : ℕ) (xs : List ℤ) (v : ℤ) (fits : SFits w16 v) where
-  pub store-up : xs ≡ build n (joinAt k f g) → v ≡ f k → set xs k (toZ w16 (ofZ w16 v)) ≡ build n (joinAt (k + 1) f g)
+  pub store-up : xs ≡ build n (splicedAt k f g) → v ≡ f k → set xs k (toZ w16 (ofZ w16 v)) ≡ build n (splicedAt (k + 1) f g)
   store-up e q =
       ap (λ (l : List ℤ). set l k (toZ w16 (ofZ w16 v))) e
-      ∙ build-set n (joinAt k f g) (joinAt (k + 1) f g) k _ (pos 0) (toZ-ofZ fits ∙ q ∙ sym (join-below (k + 1) f g k (omega arith))) (join-next k f g)
+      ∙ build-set n (splicedAt k f g) (splicedAt (k + 1) f g) k _ (pos 0) (toZ-ofZ fits ∙ q ∙ sym (spliced-below (k + 1) f g k (omega arith))) (spliced-next k f g)
 
-  store-down : xs ≡ build n (joinAt (k + 1) f g) → v ≡ g k → set xs k (toZ w16 (ofZ w16 v)) ≡ build n (joinAt k f g)
+  store-down : xs ≡ build n (splicedAt (k + 1) f g) → v ≡ g k → set xs k (toZ w16 (ofZ w16 v)) ≡ build n (splicedAt k f g)
   store-down e q =
       ap (λ (l : List ℤ). set l k (toZ w16 (ofZ w16 v))) e
-      ∙ build-set n (joinAt (k + 1) f g) (joinAt k f g) k _ (pos 0) (toZ-ofZ fits ∙ q ∙ sym (join-from k f g k (omega arith)))
-      (λ i ne. sym (join-next k f g i ne))
+      ∙ build-set n (splicedAt (k + 1) f g) (splicedAt k f g) k _ (pos 0) (toZ-ofZ fits ∙ q ∙ sym (spliced-from k f g k (omega arith)))
+      (λ i ne. sym (spliced-next k f g i ne))
 
 -- ---- the loops' starts and ends: nothing is moved yet, and all is
 module _ (X : List ℤ) where
-  pub none-moved : (S count : ℕ) → X ≡ build (length X) (joinAt (count + S) (λ k. getD X k (pos 0)) (movedUp S count X))
+  pub none-moved : (S count : ℕ) → X ≡ build (length X) (splicedAt (count + S) (λ k. getD X k (pos 0)) (movedUp S count X))
   none-moved S count =
       sym (build-is (length X) _ X (pos 0) refl
       (λ k h. by-test (λ z. z ≡ getD X k (pos 0)) (ltb k (count + S)) (getD X k (pos 0)) (movedUp S count X k) (λ _. refl) (λ q. rw q)))
 
-  pub none-entered : (f : ℕ → ℤ) → X ≡ build (length X) (joinAt 0 f (λ k. getD X k (pos 0)))
-  none-entered f = sym (build-is (length X) _ X (pos 0) refl (λ k h. join-from 0 f (λ i. getD X i (pos 0)) k (omega arith)))
+  pub none-entered : (f : ℕ → ℤ) → X ≡ build (length X) (splicedAt 0 f (λ k. getD X k (pos 0)))
+  none-entered f = sym (build-is (length X) _ X (pos 0) refl (λ k h. spliced-from 0 f (λ i. getD X i (pos 0)) k (omega arith)))
 
-pub joined-at : (n k m : ℕ) (f g : ℕ → ℤ) (xs : List ℤ) → k ≡ m → xs ≡ build n (joinAt k f g) → xs ≡ build n (joinAt m f g)
-joined-at n k m f g xs q e = e ∙ ap (λ (i : ℕ). build n (joinAt i f g)) q
+pub spliced-at : (n k m : ℕ) (f g : ℕ → ℤ) (xs : List ℤ) → k ≡ m → xs ≡ build n (splicedAt k f g) → xs ≡ build n (splicedAt m f g)
+spliced-at n k m f g xs q e = e ∙ ap (λ (i : ℕ). build n (splicedAt i f g)) q
 
 -- ---- one place moved up: it was not overwritten before, and it goes where the shift has it
 module _ (S count : ℕ) (X xs : List ℤ) (k n : ℕ) (q : n ≡ k + 1) (h : k < count)
-    (e : xs ≡ build (length X) (joinAt (n + S) (λ i. getD X i (pos 0)) (movedUp S count X))) where
+    (e : xs ≡ build (length X) (splicedAt (n + S) (λ i. getD X i (pos 0)) (movedUp S count X))) where
   unmoved : getD xs k (pos 0) ≡ getD X k (pos 0)
   unmoved = ap (λ (ys : List ℤ). getD ys k (pos 0)) e ∙ go (ltb k (length X)) refl
     where
       go : (t : Bool) → ltb k (length X) ≡ t
-          → getD (build (length X) (joinAt (n + S) (λ i. getD X i (pos 0)) (movedUp S count X))) k (pos 0) ≡ getD X k (pos 0)
+          → getD (build (length X) (splicedAt (n + S) (λ i. getD X i (pos 0)) (movedUp S count X))) k (pos 0) ≡ getD X k (pos 0)
       go true t =
           getD-build (length X) _ k (pos 0) (ltb-true k (length X) t)
-          ∙ join-below (n + S) (λ i. getD X i (pos 0)) (movedUp S count X) k (omega arith)
+          ∙ spliced-below (n + S) (λ i. getD X i (pos 0)) (movedUp S count X) k (omega arith)
       go false t =
           getD-build-out (length X) _ k (pos 0) (ltb-false k (length X) t) ∙ sym (List·getD-eq-default X (pos 0) (ltb-false k (length X) t))
 
@@ -81,21 +81,21 @@ module _ (S count : ℕ) (X xs : List ℤ) (k n : ℕ) (q : n ≡ k + 1) (h : k 
   here = rw (lt-ltb (k + S) (count + S) (omega arith)) (ap (λ (i : ℕ). getD X i (pos 0)) (omega arith))
 
   pub moved-step : mag (getD xs k (pos 0)) < 2 ^ 15
-      → set xs (k + S) (toZ w16 (ofZ w16 (getD xs k (pos 0)))) ≡ build (length X) (joinAt (k + S) (λ i. getD X i (pos 0)) (movedUp S count X))
+      → set xs (k + S) (toZ w16 (ofZ w16 (getD xs k (pos 0)))) ≡ build (length X) (splicedAt (k + S) (λ i. getD X i (pos 0)) (movedUp S count X))
   moved-step fits =
       store-down (length X) (λ i. getD X i (pos 0)) (movedUp S count X) (k + S) xs (getD xs k (pos 0)) (record { sfits = fits })
-      (joined-at (length X) (n + S) (k + S + 1) (λ i. getD X i (pos 0)) (movedUp S count X) xs (omega arith) e) (unmoved ∙ sym here)
+      (spliced-at (length X) (n + S) (k + S + 1) (λ i. getD X i (pos 0)) (movedUp S count X) xs (omega arith) e) (unmoved ∙ sym here)
 
 -- ---- the two steps are the shift of the definition, where what moves comes to its first 10 S places
 pub shifted-is : (S count : ℕ) (X moved next input : List ℤ) → count + S ≡ 10 * S
-    → moved ≡ build (length X) (joinAt S (λ k. getD X k (pos 0)) (movedUp S count X))
-    → next ≡ build (length moved) (joinAt S (entering S input) (λ k. getD moved k (pos 0))) → next ≡ shifted S X input
+    → moved ≡ build (length X) (splicedAt S (λ k. getD X k (pos 0)) (movedUp S count X))
+    → next ≡ build (length moved) (splicedAt S (entering S input) (λ k. getD moved k (pos 0))) → next ≡ shifted S X input
 unfolding shifted
 shifted-is S count X moved next input t m e =
-    e ∙ ap (λ (n : ℕ). build n (joinAt S (entering S input) (λ k. getD moved k (pos 0)))) (ap length m ∙ length-build (length X) _)
+    e ∙ ap (λ (n : ℕ). build n (splicedAt S (entering S input) (λ k. getD moved k (pos 0)))) (ap length m ∙ length-build (length X) _)
     ∙ build-ext (length X) _ (shiftedAt S X input)
     (λ k h. by-test (λ z. z ≡ shiftedAt S X input k) (ltb k S) (entering S input k) (getD moved k (pos 0))
     (λ q. sym (rw q))
     (λ q. ap (λ (l : List ℤ). getD l k (pos 0)) m ∙ getD-build (length X) _ k (pos 0) h
-    ∙ join-from S (λ i. getD X i (pos 0)) (movedUp S count X) k (ltb-false k S q)
+    ∙ spliced-from S (λ i. getD X i (pos 0)) (movedUp S count X) k (ltb-false k S q)
     ∙ ap (λ (n : ℕ). if ltb k n then getD X (k - S) (pos 0) else getD X k (pos 0)) t ∙ sym (rw q)))

@@ -1,5 +1,6 @@
 -- How the code of the analysis takes the sums in parts, for the contracts of its inner functions alone: entries whose cosines are equal or
 -- opposite are added or subtracted first, and the history moves in two steps. Nothing public cites this.
+-- From document 01, "Filterbanks": "The Rust's folding and ring must equal these sums."
 use Prim.Native.Nat.{ℕ, _+_, _*_, _-_, _/_, _^_}
 use mathlib.Core.List.{List, _++_}
 use lib.Dec.{eqb, leb, ltb}
@@ -12,22 +13,22 @@ use Rattle.laws.specs.Sums.{sumZ}
 use Rattle.sbc_filterbank.specs.Analysis.{analysisCosine}
 
 -- ---- the history: f below n, and g from n on
-abbrev pub joinAt : ℕ → (ℕ → ℤ) → (ℕ → ℤ) → ℕ → ℤ
-joinAt n f g k = if ltb k n then f k else g k
+abbrev pub splicedAt : ℕ → (ℕ → ℤ) → (ℕ → ℤ) → ℕ → ℤ
+splicedAt n f g k = if ltb k n then f k else g k
 
 -- its first `count` places move up by S
 abbrev pub movedUp : ℕ → ℕ → List ℤ → ℕ → ℤ
 movedUp S count X k = if ltb k (count + S) then getD X (k - S) (pos 0) else getD X k (pos 0)
 
 abbrev pub moved : ℕ → ℕ → List ℤ → List ℤ
-moved S count X = build (length X) (joinAt S (λ k. getD X k (pos 0)) (movedUp S count X))
+moved S count X = build (length X) (splicedAt S (λ k. getD X k (pos 0)) (movedUp S count X))
 
 -- and the new samples come to the front, newest first
 abbrev pub entering : ℕ → List ℤ → ℕ → ℤ
 entering S input k = getD input (S - 1 - k) (pos 0)
 
 abbrev pub entered : ℕ → List ℤ → List ℤ → List ℤ
-entered S input X = build (length X) (joinAt S (entering S input) (λ k. getD X k (pos 0)))
+entered S input X = build (length X) (splicedAt S (entering S input) (λ k. getD X k (pos 0)))
 
 -- ---- analysis: column c of Y is Y[S/2 + c], with Y[S/2 - c] added up to column S/2, and Y[5 S/2 - c] subtracted past it
 abbrev pub foldSign : ℕ → ℕ → ℤ

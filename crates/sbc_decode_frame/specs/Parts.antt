@@ -1,5 +1,6 @@
 -- How the code of the decoder takes a frame in parts, for the contracts of its inner functions alone: the subband samples of a channel stand in
 -- an array of 128, eight places a block, and a channel's PCM goes into its places of the output block by block. Nothing public cites this.
+-- From document 01, "Parameters", "Quantizing" and "Joint stereo".
 use Prim.Native.Nat.{ℕ, zero, suc, _+_, _*_, _-_, _≤_, _<_}
 use mathlib.Core.Path.{_≡_}
 use mathlib.Core.List.{List, [], _∷_}

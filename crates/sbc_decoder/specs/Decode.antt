@@ -25,9 +25,11 @@ use Rattle.sbc_decoder.specs.declared.SbcDecoder.{SbcDecoder}
 
 -- ---- the decoder, and its fields set one by one
 
+-- both channels silent
 unfoldable pub cleared : List Synthesis
 cleared = replicate 2 noSynthesis
 
+-- a decoder as created
 unfoldable pub newDecoder : SbcDecoder
 newDecoder = record { parameters = None; synthesis = cleared; finishing = false; skip = 0 }
 
@@ -49,11 +51,12 @@ finish d = withFinishing true d
 
 -- ---- playing a frame
 
--- histories are cleared when the subbands differ from the last accepted frame's, and not when the channel count does
+-- a frame's subbands are those of the last accepted frame
 unfoldable pub sameSubbands : SbcParameters → LastParameters → Bool
 sameSubbands p None = false
 sameSubbands p (Some q) = eqb (q .subbands) (p .subbands)
 
+-- the histories that a frame begins with: cleared when the subbands differ from the last accepted frame's, and not when the channel count does
 unfoldable pub startHistories : SbcParameters → SbcDecoder → List Synthesis
 startHistories p d = if sameSubbands p (d .parameters) then d .synthesis else cleared
 
@@ -61,6 +64,7 @@ startHistories p d = if sameSubbands p (d .parameters) then d .synthesis else cl
 unfoldable pub dropped : SbcParameters → SbcDecoder → ℕ
 dropped p d = min (d .skip) (samplesPerChannel p)
 
+-- the decoder after a frame
 unfoldable pub nextDecoder : SbcParameters → SbcDecoder → Fields → SbcDecoder
 nextDecoder p d f =
     withParameters (Some p) (withSynthesis (synthesisHistories p (startHistories p d) f) (withSkip (d .skip - dropped p d) d))
@@ -79,11 +83,13 @@ pub data Step : Type 0 where
   refused : ℕ → Step
   taken : Progress → Step
 
+-- a turn: how it went, and what it leaves
 pub record Turn : Type 0 where
   pub step : Step
   pub decoder : SbcDecoder
   pub output : List ℤ
 
+-- a frame taken
 unfoldable pub play : SbcParameters → SbcDecoder → Fields → List ℤ → Turn
 play p d f output =
     record {
@@ -94,6 +100,7 @@ play p d f output =
 
 -- ---- a turn of decode: 3 bytes, header, length, output, checksum, in this order; a refusal leaves all unchanged
 
+-- a turn that takes no frame
 unfoldable pub unchanged : Step → SbcDecoder → List ℤ → Turn
 unchanged step d output = record { step = step; decoder = d; output = output }
 
@@ -101,6 +108,7 @@ unchanged step d output = record { step = step; decoder = d; output = output }
 unfoldable pub shortStep : SbcDecoder → List ℕ → Step
 shortStep d input = if d .finishing && not (eqb (length input) 0) then refused 1 else none-whole
 
+-- a turn, by what stands in front
 unfoldable pub turnAt : Look → SbcDecoder → List ℕ → List ℤ → Turn
 turnAt cut d input output = unchanged (shortStep d input) d output
 turnAt (bad n) d input output = unchanged (refused n) d output
@@ -109,11 +117,13 @@ turnAt (whole p good) d input output =
     if good then play p d (unpack p (take (frameLength p) input)) output else
     unchanged (refused 4) d output
 
+-- a turn at the front of the input
 unfoldable pub decodeNext : SbcDecoder → List ℕ → List ℤ → Turn
 decodeNext d input output = turnAt (look input) d input output
 
 -- ---- frames until none is whole
 
+-- the turns of a call: their progress together, and what they leave
 pub record Turns : Type 0 where
   pub progress : Progress
   pub decoder : SbcDecoder
@@ -121,6 +131,7 @@ pub record Turns : Type 0 where
   -- what stopped the call: none-whole or a refusal
   pub ending : Step
 
+-- the rest of the call, on what a taken frame leaves
 unfoldable pub afterStep : (SbcDecoder → List ℕ → List ℤ → Turns) → List ℕ → SbcDecoder → List ℤ → Step → Turns
 afterStep go input d output none-whole = record { progress = progressOf 0 0; decoder = d; output = output; ending = none-whole }
 afterStep go input d output (refused n) = record { progress = progressOf 0 0; decoder = d; output = output; ending = refused n }
@@ -144,16 +155,19 @@ decodeAll d input output = decodeTurns (length input) d input output
 
 -- ---- the call: the progress, or the refusal where no frame was accepted before it
 
+-- if a frame was accepted earlier in the call, the progress is returned instead
 unfoldable pub answerOf : Progress → Step → Told Progress
 answerOf progress none-whole = gives progress
 answerOf progress (refused n) = if eqb (progress .consumed) 0 then refuses n else gives progress
 answerOf progress (taken more) = gives progress
 
+-- a call: its answer, and what it leaves
 pub record Decoded : Type 0 where
   pub answer : Told Progress
   pub decoder : SbcDecoder
   pub output : List ℤ
 
+-- the whole call
 unfoldable pub decode : SbcDecoder → List ℕ → List ℤ → Decoded
 decode d input output =
     let r = decodeAll d input output in

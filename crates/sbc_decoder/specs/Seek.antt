@@ -24,6 +24,7 @@ unfoldable pub toldSeek : SeekOutcome → Told SeekRequest
 toldSeek (At request) = gives request
 toldSeek (Refused e) = refuses (errorNumber e)
 
+-- a seek: its answer, and the decoder that it leaves
 pub record Seeked : Type 0 where
   pub answer : Told SeekRequest
   pub decoder : SbcDecoder
@@ -31,6 +32,7 @@ pub record Seeked : Type 0 where
 unfoldable pub toldSought : Sought → Seeked
 toldSought r = record { answer = toldSeek (r .outcome); decoder = r .decoder }
 
+-- a byte offset, and the positions left to skip
 unfoldable pub requestOf : ℕ → ℕ → SeekRequest
 requestOf offset skip = record { «byte_offset» = offset; «skip_frames» = skip }
 
@@ -58,9 +60,11 @@ unfoldable pub seekFirst : SbcDecoder → ℕ → Seeked
 seekFirst d position =
     if eqb position 0 then record { answer = gives (requestOf 0 0); decoder = reset d } else record { answer = refuses 1; decoder = d }
 
+-- by whether a frame was accepted yet
 unfoldable pub seekAfter : LastParameters → SbcDecoder → ℕ → Seeked
 seekAfter None d position = seekFirst d position
 seekAfter (Some p) d position = seekFrom p d position
 
+-- the whole call
 unfoldable pub seek : SbcDecoder → ℕ → Seeked
 seek d position = seekAfter (d .parameters) d position

@@ -23,7 +23,7 @@ use Rattle.sbc_filterbank.proofs.Bands.{bands-le, padded-at}
 use Rattle.sbc_frame.specs.Channels.{analyzeBlocks, analysisAfter}
 use Rattle.sbc_frame.specs.Encoding.{sampleAt}
 use Rattle.sbc_frame.specs.Arrays.{sampleIn}
-use Rattle.sbc_encode_frame.specs.Pieces.{pcmIn, SamplesIn}
+use Rattle.sbc_encode_frame.specs.Parts.{pcmIn, SamplesIn}
 use Rattle.sbc_frame.proofs.Blocks.{analysis-after-next, analyze-next, length-analyzeBlocks}
 
 -- ---- a block

@@ -16,7 +16,7 @@ use Rattle.laws.proofs.Cases.{by-test}
 use Rattle.laws.proofs.Lists.{getD-build, build-ext}
 use Rattle.sbc_quantizer.specs.Quantizing.{scaleFactor}
 use Rattle.sbc_frame.specs.Arrays.{below, entry, sampleIn}
-use Rattle.sbc_encode_frame.specs.Pieces.{maximaIn, joinRow}
+use Rattle.sbc_encode_frame.specs.Parts.{maximaIn, joinRow}
 
 -- ---- the greatest absolute values, and the scale factors
 

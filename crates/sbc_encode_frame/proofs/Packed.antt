@@ -27,9 +27,9 @@ use Rattle.sbc_quantizer.specs.Quantizing.{quantize}
 use Rattle.sbc_frame.specs.Fields.{Fields, factorAt, valueAt, widthAt}
 use Rattle.sbc_frame.specs.Layout.{flagBits, channelFactorBits, factorBits, channelValueBits, blockValueBits, valueBits, bodyBits, body, pack}
 use Rattle.sbc_frame.specs.Channels.{channelPcm, analyzeBlocks, analysisAfter}
-use Rattle.sbc_frame.specs.Encoding.{sampleAt, channelSamples, factorOf, isJoined, codedAt, codedFactors, codedValues, coded, analysisHistories}
+use Rattle.sbc_frame.specs.Encoding.{sampleAt, channelSamples, factorOf, isJoined, codedAt, codedFactors, codedValues, codedFields, analysisHistories}
 use Rattle.sbc_frame.specs.Arrays.{entry}
-use Rattle.sbc_encode_frame.specs.Pieces.{pcmIn, SamplesIn, ChannelsIn, CodingIn, rowBits, blockBitsOf, valueBitsOf, filled, codingBits, codingBytes}
+use Rattle.sbc_encode_frame.specs.Parts.{pcmIn, SamplesIn, ChannelsIn, CodingIn, rowBits, blockBitsOf, valueBitsOf, filled, codingBits, codingBytes}
 use Rattle.sbc_frame.proofs.Widths.{Enough, allocate-agree, table-width, width-none, width-absent}
 use Rattle.sbc_frame.proofs.Sizes.{row-sizes}
 
@@ -81,14 +81,14 @@ flag-bit false = refl
 module _ (p : SbcParameters) (a : accepted p ≡ true) (samples : ℕ → List (List ℤ)) (flags lf rf : List ℕ) (left right : List ℤ)
     (k : CodingIn p samples flags lf rf left right) (long-l : length lf ≡ 8) (long-r : length rf ≡ 8) where
   abbrev fields : Fields
-  fields = coded p samples
+  fields = codedFields p samples
 
   abbrev table : List (List ℕ)
   table = allocationTable p (lf ∷ rf ∷ [])
 
   -- ---- join flags
   flags-packed : rowBits flags 1 (joinCount p) ≡ flagBits p fields
-  unfolding rowBits flagBits coded
+  unfolding rowBits flagBits codedFields
   flags-packed =
       collect-ext (joinCount p) _ _
       (λ s hs. ap (bitsOf 1) (k .flag-is s (omega (arith, row-sizes p a .joins-high))) ∙ flag-bit (isJoined p samples s)
@@ -96,7 +96,7 @@ module _ (p : SbcParameters) (a : accepted p ≡ true) (samples : ℕ → List (
 
   -- ---- scale factors
   factor-there : (c s : ℕ) → c < channels p → s < p .subbands → factorAt fields c s ≡ factorOf p (λ b. codedAt p samples b c s)
-  unfolding coded codedFactors
+  unfolding codedFields codedFactors
   factor-there c s hc hs =
       ap (λ (row : List ℕ). getD row s 0)
       (getD-build (channels p) (λ c. build (p .subbands) (λ s. factorOf p (λ b. codedAt p samples b c s))) c [] hc)
@@ -139,7 +139,7 @@ module _ (p : SbcParameters) (a : accepted p ≡ true) (samples : ℕ → List (
   enough-rows (suc (suc c)) hc = absurd (omega (arith, channels-range p .1))
 
   enough-coded : Enough p (fields .factors)
-  unfolding coded codedFactors
+  unfolding codedFields codedFactors
   enough-coded c hc =
       let row : ℕ → List ℕ = λ c. build (p .subbands) (λ s. factorOf p (λ b. codedAt p samples b c s)) in
       let e : length (getD (build (channels p) row) c []) ≡ p .subbands = ap length (getD-build (channels p) row c [] hc) ∙ length-build (p .subbands) _ in
@@ -153,7 +153,7 @@ module _ (p : SbcParameters) (a : accepted p ≡ true) (samples : ℕ → List (
 
   value-there : (b c s : ℕ) → b < p .blocks → c < channels p → s < p .subbands
       → valueAt fields b c s ≡ quantize (codedAt p samples b c s) (factorAt fields c s) (widthAt p (fields .factors) c s)
-  unfolding coded codedValues
+  unfolding codedFields codedValues
   value-there b c s hb hc hs =
       let factors : List (List ℕ) = codedFactors p samples in
       let value : ℕ → ℕ → ℕ → ℕ = λ b c s. quantize (codedAt p samples b c s) (getD (getD factors c []) s 0) (widthAt p factors c s) in

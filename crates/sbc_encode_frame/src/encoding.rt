@@ -25,7 +25,7 @@ ghost use Rattle.sbc_frame.specs.Layout.{pack};
 ghost use Rattle.sbc_frame.specs.Channels.{analyzeBlocks, analysisAfter};
 ghost use Rattle.sbc_frame.specs.Encoding.{encodeFields, analysisHistories};
 ghost use Rattle.sbc_frame.specs.Arrays.{entry};
-ghost use Rattle.sbc_encode_frame.specs.Pieces.{pcmIn, SamplesIn, ChannelsIn, CodingRows, CodingIn, codingBits, codingBytes, filled};
+ghost use Rattle.sbc_encode_frame.specs.Parts.{pcmIn, SamplesIn, ChannelsIn, CodingRows, CodingIn, codingBits, codingBytes, filled};
 
 // What is coded of a frame: join flags, scale factors and samples; rows of eight, and eight places a block.
 struct Coding {

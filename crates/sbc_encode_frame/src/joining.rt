@@ -9,7 +9,7 @@ ghost use Rattle.laws.specs.Choice.{if_then_else_};
 ghost use Rattle.laws.specs.Lists.{build};
 ghost use Rattle.laws.specs.Bits.{digit};
 ghost use Rattle.sbc_frame.specs.Arrays.{sampleIn, entry, withSubband};
-ghost use Rattle.sbc_encode_frame.specs.Pieces.{maximaIn, factorsIn, halfSums, halfDifferences, joinRow, pickedRow};
+ghost use Rattle.sbc_encode_frame.specs.Parts.{maximaIn, factorsIn, halfSums, halfDifferences, joinRow, pickedRow};
 
 // The absolute value.
 fn magnitude(x: i32) -> u32

@@ -20,9 +20,11 @@ use Rattle.sbc_encoder.specs.declared.SbcEncoder.{SbcEncoder}
 
 -- ---- the encoder
 
+-- the histories by channel
 unfoldable pub histories : SbcEncoder → List (List ℤ)
 histories e = map (λ a. a .history) (e .analysis)
 
+-- the encoder with other histories
 unfoldable pub withHistories : SbcEncoder → List (List ℤ) → SbcEncoder
 withHistories e hs = record { parameters = e .parameters; analysis = map (λ h. record { history = h }) hs }
 
@@ -44,10 +46,12 @@ resetEncoder e = encoderOf (e .parameters)
 unfoldable pub nextEncoder : SbcEncoder → List ℤ → SbcEncoder
 nextEncoder e pcm = withHistories e (analysisHistories (e .parameters) (histories e) pcm)
 
+-- the encoder after n frames
 unfoldable pub encoderAfter : ℕ → SbcEncoder → List ℤ → SbcEncoder
 encoderAfter zero e pcm = e
 encoderAfter (suc n) e pcm = encoderAfter n (nextEncoder e pcm) (drop (frameSamples (e .parameters)) pcm)
 
+-- the fields of n frames
 unfoldable pub encodedFrames : ℕ → SbcEncoder → List ℤ → List Fields
 encodedFrames zero e pcm = []
 encodedFrames (suc n) e pcm =
@@ -60,6 +64,7 @@ packAll p (f ∷ fs) = pack p f ++ packAll p fs
 
 -- ---- the call
 
+-- a call: its answer, and what it leaves
 pub record Encoded : Type 0 where
   pub answer : Told Progress
   pub encoder : SbcEncoder

@@ -1,4 +1,4 @@
--- What the code of the calls and of their parts gives back, in the definitions' terms, with document 01's numbers.
+-- What the code of the calls and of their parts gives back, in the definitions' terms, with document 01's numbers ("Given back").
 use mathlib.Core.List.{List, [], _∷_}
 use Prim.Native.Nat.{ℕ}
 use lib.IntN.{ℤ}
@@ -11,6 +11,7 @@ use Rattle.sbc_encoder.specs.declared.SbcEncoder.{SbcEncoder}
 use Rattle.sbc_encoder.specs.declared.EncodeResult.{EncodeResult}
 use Rattle.sbc_encoder.specs.declared.Created.{Created}
 
+-- the encoder, or the refusal of its parameters
 abbrev pub createdAs : SbcEncoder → Told Unit → Told SbcEncoder
 createdAs e (gives u) = gives e
 createdAs e (refuses n) = refuses n
@@ -19,6 +20,7 @@ createdAs e (refuses n) = refuses n
 unfoldable pub toldCreated : Created → Told SbcEncoder
 toldCreated r = createdAs (r .encoder) (toldValidated (r .outcome))
 
+-- a call, with the output at exit
 unfoldable pub toldEncoded : EncodeResult → List ℕ → Encoded
 toldEncoded r output = record { answer = toldCoded (r .answer); encoder = r .encoder; output = output }
 

@@ -1,4 +1,5 @@
 -- How far two lists of samples, which are equally long, are apart; and the samples of a list of bytes.
+-- From document 01, "Reviewer's checklist": published vectors.
 use Prim.Native.Nat.{ℕ, _+_, _*_}
 use mathlib.Core.List.{List}
 use lib.Dec.{eqb}

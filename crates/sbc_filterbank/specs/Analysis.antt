@@ -34,9 +34,9 @@ analysisCosine S i k = cosineAt (pos (2 * i + 1) *ℤ (pos k -ℤ pos (S / 2)) *
 abbrev pub subbandTerm : ℕ → (ℕ → ℤ) → ℕ → ℕ → ℤ
 subbandTerm S Y i k = analysisCosine S i k *ℤ Y k
 
-unfoldable pub subband : ℕ → (ℕ → ℤ) → ℕ → ℤ
-subband S Y i = floorDiv (sumZ (2 * S) (subbandTerm S Y i)) (2 ^ 33)
+unfoldable pub subbandSample : ℕ → (ℕ → ℤ) → ℕ → ℤ
+subbandSample S Y i = floorDiv (sumZ (2 * S) (subbandTerm S Y i)) (2 ^ 33)
 
 -- the S outputs of a history
 unfoldable pub analysisOutputs : ℕ → List ℤ → List ℤ
-analysisOutputs S X = build S (subband S (windowed S X))
+analysisOutputs S X = build S (subbandSample S (windowed S X))

@@ -24,7 +24,7 @@ use Rattle.sbc_filterbank.specs.declared.synthesis.Synthesis.{Synthesis}
 use Rattle.sbc_frame.specs.Fields.{Fields, widthAt, WellFormed}
 use Rattle.sbc_frame.specs.Channels.{channelPcm, interleave, noAnalysis, analyzeBlocks, analysisAfter}
 use Rattle.sbc_frame.specs.Channels.{noSynthesis, synthesizeBlocks, synthesisAfter}
-use Rattle.sbc_frame.specs.Encoding.{channelSamples, sampleAt, factorOf, isJoined, codedAt, codedFactors, codedValues, coded}
+use Rattle.sbc_frame.specs.Encoding.{channelSamples, sampleAt, factorOf, isJoined, codedAt, codedFactors, codedValues, codedFields}
 use Rattle.sbc_frame.specs.Encoding.{encodeFields, analysisHistories}
 use Rattle.sbc_frame.specs.Decoding.{reconstructedAt, decodedAt, channelBlocks, decodeFields, synthesisHistories}
 
@@ -77,8 +77,8 @@ module _ (p : SbcParameters) (samples : ℕ → List (List ℤ)) where
         (quantize-lt (codedAt p samples b c s) (getD (getD factors c []) s 0) (widthAt p factors c s))
 
   -- what is coded of any samples is well formed
-  pub coded-fits : WellFormed p (coded p samples)
-  unfolding coded codedFactors codedValues
+  pub coded-fits : WellFormed p (codedFields p samples)
+  unfolding codedFields codedFactors codedValues
   coded-fits =
       let factors : List (List ℕ) = codedFactors p samples in
       record {
@@ -171,8 +171,8 @@ module _ (p : SbcParameters) (dual : p .«channel_mode» ≡ DualChannel) where
               let hb : p .blocks ≤ b = ltb-false b (p .blocks) h in
               value-row-out p x fs b c hb ∙ sym (value-row-out p y gs b c hb)
 
-      coded-same : SameFields c (coded p x) (coded p y)
-      unfolding coded
+      coded-same : SameFields c (codedFields p x) (codedFields p y)
+      unfolding codedFields
       coded-same = record { factors = factors-same; values = values-same (codedFactors p x) (codedFactors p y) factors-same }
 
     analysis-alone : (hs : List (List ℤ)) (pcm : List ℤ) → getD (analysisHistories p hs pcm) c noAnalysis

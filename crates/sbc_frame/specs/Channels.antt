@@ -28,29 +28,36 @@ interleave p channel = build (frameSamples p) (λ i. getD (channel (i % channels
 unfoldable pub noAnalysis : List ℤ
 noAnalysis = replicate 80 (pos 0)
 
+-- the subband samples of n blocks
 unfoldable pub analyzeBlocks : ℕ → ℕ → List ℤ → List ℤ → List (List ℤ)
 analyzeBlocks zero S X pcm = []
 analyzeBlocks (suc n) S X pcm = let next = shifted S X (take S pcm) in analysisOutputs S next ∷ analyzeBlocks n S next (drop S pcm)
 
+-- the history after n blocks
 unfoldable pub analysisAfter : ℕ → ℕ → List ℤ → List ℤ → List ℤ
 analysisAfter zero S X pcm = X
 analysisAfter (suc n) S X pcm = analysisAfter n S (shifted S X (take S pcm)) (drop S pcm)
 
 -- ---- synthesis: each block of subband samples gives S samples, and the next history
 
+-- silence
 unfoldable pub noSynthesis : Synthesis
 noSynthesis = record { values = replicate 160 (pos 0); newest = 0 }
 
+-- the history after a block
 unfoldable pub synthesized : ℕ → Synthesis → List ℤ → Synthesis
 synthesized S h s = record { values = ringPushed S (modulated S s) (h .values) (h .newest); newest = nextSlot (h .newest) }
 
+-- the S samples of a block
 unfoldable pub synthesize : ℕ → Synthesis → List ℤ → List ℤ
 synthesize S h s = synthesisOutputs S (pushed (modulated S s) (ring S (h .values) (h .newest)))
 
+-- the samples of all blocks
 unfoldable pub synthesizeBlocks : ℕ → Synthesis → List (List ℤ) → List ℤ
 synthesizeBlocks S h [] = []
 synthesizeBlocks S h (s ∷ ss) = synthesize S h s ++ synthesizeBlocks S (synthesized S h s) ss
 
+-- the history after all blocks
 unfoldable pub synthesisAfter : ℕ → Synthesis → List (List ℤ) → Synthesis
 synthesisAfter S h [] = h
 synthesisAfter S h (s ∷ ss) = synthesisAfter S (synthesized S h s) ss

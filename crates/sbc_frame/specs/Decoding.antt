@@ -13,6 +13,7 @@ use Rattle.sbc_quantizer.specs.Quantizing.{reconstruct}
 use Rattle.sbc_frame.specs.Fields.{Fields, joinAt, factorAt, valueAt, widthAt}
 use Rattle.sbc_frame.specs.Channels.{interleave, noSynthesis, synthesizeBlocks, synthesisAfter}
 
+-- a subband's sample before joining
 unfoldable pub reconstructedAt : SbcParameters → Fields → ℕ → ℕ → ℕ → ℤ
 reconstructedAt p f b c s = reconstruct (valueAt f b c s) (factorAt f c s) (widthAt p (f .factors) c s)
 
@@ -27,6 +28,7 @@ decodedAt p f b c s =
 unfoldable pub channelBlocks : SbcParameters → Fields → ℕ → List (List ℤ)
 channelBlocks p f c = build (p .blocks) (λ b. build (p .subbands) (λ s. decodedAt p f b c s))
 
+-- a frame's PCM
 unfoldable pub decodeFields : SbcParameters → List Synthesis → Fields → List ℤ
 decodeFields p histories f = interleave p (λ c. synthesizeBlocks (p .subbands) (getD histories c noSynthesis) (channelBlocks p f c))
 

@@ -17,9 +17,11 @@ use Rattle.sbc_frame.specs.Channels.{channelPcm, noAnalysis, analyzeBloc
 
 -- ---- the subband samples of the channels, each by block and subband
 
+-- those of channel c, from its history and its PCM
 unfoldable pub channelSamples : SbcParameters → List (List ℤ) → List ℤ → ℕ → List (List ℤ)
 channelSamples p histories pcm c = analyzeBlocks (p .blocks) (p .subbands) (getD histories c noAnalysis) (channelPcm p pcm c)
 
+-- the sample of block b and subband s
 abbrev pub sampleAt : List (List ℤ) → ℕ → ℕ → ℤ
 sampleAt samples b s = getD (getD samples b []) s (pos 0)
 
@@ -29,6 +31,7 @@ factorOf p sample = scaleFactor (greatest (p .blocks) (λ b. natAbs (sample b)))
 
 -- ---- joint stereo: both halved by arithmetic shift, then sum (channel 0) and difference (channel 1)
 
+-- the joined sample of block b and subband s
 unfoldable pub joinedAt : (ℕ → List (List ℤ)) → ℕ → ℕ → ℕ → ℤ
 joinedAt samples b c s =
     let left = floorDiv (sampleAt (samples 0) b s) 2 in
@@ -53,22 +56,26 @@ isJoined p samples s =
 unfoldable pub codedAt : SbcParameters → (ℕ → List (List ℤ)) → ℕ → ℕ → ℕ → ℤ
 codedAt p samples b c s = if isJoined p samples s then joinedAt samples b c s else sampleAt (samples c) b s
 
+-- the scale factors, by channel and subband
 unfoldable pub codedFactors : SbcParameters → (ℕ → List (List ℤ)) → List (List ℕ)
 codedFactors p samples = build (channels p) (λ c. build (p .subbands) (λ s. factorOf p (λ b. codedAt p samples b c s)))
 
+-- the quantized values, by block, channel and subband
 unfoldable pub codedValues : SbcParameters → (ℕ → List (List ℤ)) → List (List ℕ) → List (List (List ℕ))
 codedValues p samples factors =
     build (p .blocks)
     (λ b. build (channels p)
     (λ c. build (p .subbands) (λ s. quantize (codedAt p samples b c s) (getD (getD factors c []) s 0) (widthAt p factors c s))))
 
-unfoldable pub coded : SbcParameters → (ℕ → List (List ℤ)) → Fields
-coded p samples =
+-- all fields, from the subband samples of the channels
+unfoldable pub codedFields : SbcParameters → (ℕ → List (List ℤ)) → Fields
+codedFields p samples =
     let factors = codedFactors p samples in
     record { join = build (joinCount p) (isJoined p samples); factors = factors; values = codedValues p samples factors }
 
+-- the fields of a frame with this PCM
 unfoldable pub encodeFields : SbcParameters → List (List ℤ) → List ℤ → Fields
-encodeFields p histories pcm = coded p (channelSamples p histories pcm)
+encodeFields p histories pcm = codedFields p (channelSamples p histories pcm)
 
 -- the histories after the frame; a channel that the set does not have keeps its own
 unfoldable pub analysisHistories : SbcParameters → List (List ℤ) → List ℤ → List (List ℤ)

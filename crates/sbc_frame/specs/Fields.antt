@@ -18,12 +18,15 @@ pub record Fields : Type 0 where
   -- the quantized values, by block, channel and subband
   pub values : List (List (List ℕ))
 
+-- the join flag of a subband, which is not set where the frame has none
 abbrev pub joinAt : Fields → ℕ → Bool
 joinAt f s = getD (f .join) s false
 
+-- the scale factor of a channel and subband
 abbrev pub factorAt : Fields → ℕ → ℕ → ℕ
 factorAt f c s = getD (getD (f .factors) c []) s 0
 
+-- the quantized value of a block, channel and subband
 abbrev pub valueAt : Fields → ℕ → ℕ → ℕ → ℕ
 valueAt f b c s = getD (getD (getD (f .values) b []) c []) s 0
 

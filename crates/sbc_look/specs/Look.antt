@@ -15,6 +15,7 @@ use Rattle.sbc_parameters.specs.declared.SbcParameters.{SbcParameters}
 use Rattle.sbc_look.specs.declared.Front.{Front}
 use Rattle.sbc_look.specs.declared.Front.the-variants.{Cut, Bad, Whole}
 
+-- what stands in front of the input
 pub data Look : Type 0 where
   -- under 3 bytes, or under one frame
   cut : Look
@@ -23,12 +24,14 @@ pub data Look : Type 0 where
   -- a whole frame, and whether byte 3 holds its checksum
   whole : SbcParameters → Bool → Look
 
+-- the tests behind parse: length and checksum
 unfoldable pub lookBehind : List ℕ → Told SbcParameters → Look
 lookBehind input (refuses n) = if eqb n 1 then cut else bad n
 lookBehind input (gives p) =
     if ltb (length input) (frameLength p) then cut else
     whole p (eqb (checksum (take (frameLength p) input) (sideBits p)) (getD input 3 0))
 
+-- parse, then these
 unfoldable pub look : List ℕ → Look
 look input = lookBehind input (parse input)
 

@@ -20,6 +20,7 @@ use Rattle.sbc_parameters.specs.declared.Parsed.the-variants.{Parameters
 unfoldable pub placeIn : ℕ → List ℕ → ℕ
 placeIn x xs = if listed x xs then indexOf x xs else 0
 
+-- the index of the rate
 unfoldable pub frequencyIndex : SbcParameters → ℕ
 frequencyIndex p = placeIn (p .«sample_rate») sampleRates
 
@@ -35,6 +36,7 @@ header p = if isMsbc p then 0xAD ∷ 0 ∷ 0 ∷ [] else 0x9C ∷ settingsByte p
 
 -- ---- reading
 
+-- the set that a settings byte and a bitpool stand for
 unfoldable pub fromSettings : ℕ → ℕ → SbcParameters
 fromSettings settings bitpool =
     record {
@@ -46,6 +48,7 @@ fromSettings settings bitpool =
       bitpool = bitpool;
     }
 
+-- what parse gives back, by document 01's numbers
 unfoldable pub toldParsed : Parsed → Told SbcParameters
 toldParsed (Parameters p) = gives p
 toldParsed (Refused e) = refuses (errorNumber e)

@@ -65,12 +65,14 @@ separate DualChannel = true
 separate Stereo = false
 separate JointStereo = false
 
+-- subbands may be joined
 abbrev pub isJoint : SbcChannelMode → Bool
 isJoint Mono = false
 isJoint DualChannel = false
 isJoint Stereo = false
 isJoint JointStereo = true
 
+-- the channels of a set
 abbrev pub channels : SbcParameters → ℕ
 channels p = channelsOf (p .«channel_mode»)
 
@@ -105,6 +107,7 @@ fieldTests p =
     ∷ ltb (p .bitpool) 256
     ∷ []
 
+-- 15 blocks only as mSBC
 unfoldable pub accepted : SbcParameters → Bool
 accepted p = allOf (if isMsbc p then msbcTests p else fieldTests p)
 

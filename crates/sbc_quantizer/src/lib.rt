@@ -5,7 +5,7 @@ ghost use lib.IntN.{pos, negsuc, natAbs, _+ℤ_};
 ghost use lib.Signed.{ltZ, quotZ};
 ghost use Rattle.laws.specs.Choice.{if_then_else_};
 ghost use Rattle.sbc_quantizer.specs.Quantizing.{scaleFactor, levels, quantize, reconstruct};
-ghost use Rattle.sbc_quantizer.specs.Dequantizing.{held, dequantizer, Dequantizes};
+ghost use Rattle.sbc_quantizer.specs.Dequantizing.{heldBetween, dequantizer, Dequantizes};
 use laws::power_of_two;
 
 // The scale factor of a subband whose greatest absolute value is `maximum`. Between the least factor and the greatest, it is the factor f for
@@ -32,7 +32,7 @@ fn levels(bits: u8) -> u32
 
 // sample + limit, held between 0 and twice the limit: a sample outside the limits is then quantized like one at a limit.
 fn raised(sample: i32, limit: u32) -> i64
-    ensures { λ r. ⌜ r ≡ pos (held (limit + limit) (sample +ℤ pos limit)) ⌝ }
+    ensures { λ r. ⌜ r ≡ pos (heldBetween (limit + limit) (sample +ℤ pos limit)) ⌝ }
 {
     let sum = (sample as i64) + (limit as i64);
     let top = (limit as i64) + (limit as i64);

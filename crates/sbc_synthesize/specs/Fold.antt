@@ -1,5 +1,6 @@
 -- How the code of the synthesis takes the sums in parts, for the contracts of its inner functions alone: samples whose cosines are equal or
 -- opposite are added or subtracted first, and the outputs are summed vector by vector. Nothing public cites this.
+-- From document 01, "Filterbanks": "The Rust's folding and ring must equal these sums."
 use Prim.Native.Nat.{ℕ, _+_, _*_, _-_, _/_, _%_, _^_, _≤_, _<_}
 use mathlib.Core.Path.{_≡_}
 use mathlib.Core.List.{List}
@@ -22,15 +23,15 @@ unfoldable pub pairOf : ℕ → ℕ → (ℕ → ℤ) → ℕ → ℤ
 pairOf S odd s n = s n +ℤ pairSign odd *ℤ s (S - 1 - n)
 
 -- the row of V that row m of the matrix gives, and whether it takes the sums (0) or the differences (1)
-abbrev pub rowOf : ℕ → ℕ → ℕ
-rowOf S m = if ltb m (S / 2) then m else m + S / 2 + 1
+abbrev pub vectorRow : ℕ → ℕ → ℕ
+vectorRow S m = if ltb m (S / 2) then m else m + S / 2 + 1
 
 abbrev pub rowOdd : ℕ → ℕ → ℕ
-rowOdd S m = (rowOf S m + S / 2) % 2
+rowOdd S m = (vectorRow S m + S / 2) % 2
 
 -- the matrix: for each row of V that is not a mirror of another, the cosines of its first S/2 subbands
 unfoldable pub synthesisRows : ℕ → List ℤ
-synthesisRows S = collect S (λ m. build (S / 2) (λ n. synthesisCosine S (rowOf S m) n))
+synthesisRows S = collect S (λ m. build (S / 2) (λ n. synthesisCosine S (vectorRow S m) n))
 
 -- entries of the matrix, from `at` on, times pairs; and all of row m
 abbrev pub rowTerm : List ℤ → List ℤ → ℕ → ℕ → ℤ

@@ -11,7 +11,7 @@ use lib.IntN.{ℤ}
 use lib.Seq.{length-take-le}
 use Rattle.sbc_allocation.specs.Share.{share}
 use Rattle.sbc_allocation.specs.Raised.{lowered}
-use Rattle.sbc_allocation.specs.Allocate.{channelNeeds, leftFirst, rowOf, rowsTogether, tableRow}
+use Rattle.sbc_allocation.specs.Allocate.{channelNeeds, leftFirst, channelRow, rowsTogether, tableRow}
 use Rattle.sbc_allocation.proofs.Sharing.{length-share}
 use Rattle.sbc_allocation.proofs.Rows.{length-leftFirst}
 use Rattle.sbc_allocation.proofs.Tables.{AtLeast, needs-none, share-none, take-at-least, leftFirst-at-least, take-leftFirst, map-leftFirst}
@@ -101,7 +101,7 @@ used-subbands-requires : tie.Need-used-subbands-requires
 used-subbands-requires c κs = search needs
 
 returns : tie.Need-returns
-unfolding rowsTogether tableRow leftFirst rowOf
+unfolding rowsTogether tableRow leftFirst channelRow
 returns c =
     let s = c .before .before in
     let p = s .args .parameters in
@@ -151,8 +151,8 @@ returns-2 c =
     rw (part-is b, part-long b, shared .before .wide .ensures .0) at (shared .share-bits .ensures) in
     let bits-are : length bits ≡ 2 * used b =
     length-share (leftFirst (leftNeeds b) (rightNeeds b)) bitpool ∙ ap length (sym (part-is b)) ∙ length-map (part b) lowered ∙ part-long b in
-    let row-is : (channel : ℕ) → rowOf channel (shared .share-bits .result) ≡ tableRow (rowOf channel bits) =
-    λ channel. ap (rowOf channel) padded ∙ row-channel channel (used b) (2 * used b) bits (omega arith) bits-are (used-is b) in
+    let row-is : (channel : ℕ) → channelRow channel (shared .share-bits .result) ≡ tableRow (channelRow channel bits) =
+    λ channel. ap (channelRow channel) padded ∙ row-channel channel (used b) (2 * used b) bits (omega arith) bits-are (used-is b) in
     ap₂ (λ (l r : List ℕ). l ∷ r ∷ [])
     (c .before .left-row .ensures ∙ left-entries (shared .share-bits .result) (bits-long shared) ∙ row-is 0)
     (c .right-row .ensures ∙ right-entries (shared .share-bits .result) (bits-long shared) ∙ row-is 1)

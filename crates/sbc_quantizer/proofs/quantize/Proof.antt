@@ -12,13 +12,13 @@ use mir.Facts.{toZ-ofZ}
 use borrow.Author.Needs.{needs}
 use Rattle.laws.proofs.Abs.{read-back}
 use Rattle.sbc_quantizer.specs.Quantizing.{levels, quantize}
-use Rattle.sbc_quantizer.specs.Dequantizing.{held}
+use Rattle.sbc_quantizer.specs.Dequantizing.{heldBetween}
 use Rattle.sbc_quantizer.proofs.Limits.{held-le, quantize-held, quantize-lt}
 use Rattle.sbc_quantizer.proofs.quantize.Statement.{statement}
 use Rattle.sbc_quantizer.proofs.quantize.Tie as tie
 
 -- what the code computes is the definition
-value : (x : ℤ) (f b limit raised most : ℕ) → limit ≡ 2 ^ (f + 13) → raised ≡ held (limit + limit) (x +ℤ pos limit) → most ≡ levels b →
+value : (x : ℤ) (f b limit raised most : ℕ) → limit ≡ 2 ^ (f + 13) → raised ≡ heldBetween (limit + limit) (x +ℤ pos limit) → most ≡ levels b →
     raised * most / 2 ^ (f + 14) ≡ quantize x f b
 value x f b limit raised most h r m = rw (r, m, h) (sym (quantize-held x f b))
 
@@ -27,12 +27,12 @@ module _ (c : tie.After-raised) where
   abbrev limit : ℕ
   limit = c .before .power-of-two .result
 
-  raised-is : toZ w64 (ofZ w64 (c .raised .result)) ≡ pos (held (limit + limit) (c .before .before .args .sample +ℤ pos limit))
+  raised-is : toZ w64 (ofZ w64 (c .raised .result)) ≡ pos (heldBetween (limit + limit) (c .before .before .args .sample +ℤ pos limit))
   raised-is =
       read-back w64 (c .raised .ok) ∙ c .raised .ensures
-      ∙ ap (λ (x : ℤ). pos (held (limit + limit) (x +ℤ pos limit))) (toZ-ofZ (c .before .before .fits .sample))
+      ∙ ap (λ (x : ℤ). pos (heldBetween (limit + limit) (x +ℤ pos limit))) (toZ-ofZ (c .before .before .fits .sample))
 
-  raised-small : held (limit + limit) (c .before .before .args .sample +ℤ pos limit) ≤ 2 ^ 33
+  raised-small : heldBetween (limit + limit) (c .before .before .args .sample +ℤ pos limit) ≤ 2 ^ 33
   raised-small = omega (arith, held-le (limit + limit) (c .before .before .args .sample +ℤ pos limit), c .before .power-of-two .ok)
 
 add-power-of-two : tie.Need-add-power-of-two

@@ -1,4 +1,4 @@
--- `sbc_quantizer::raised` meets its contract: both sums fit an i64, so that they are read back from their bits, and the tests are those of `held`.
+-- `sbc_quantizer::raised` meets its contract: both sums fit an i64, so that they are read back from their bits, and the tests are those of `heldBetween`.
 -- Assumes nothing.
 use mathlib.Core.Path.{_≡_, sym, ap, ap₂, _∙_}
 use Prim.Native.Nat.{ℕ, _+_, _^_, _<_}
@@ -11,7 +11,7 @@ use mir.Val.{SFits, toZ, ofZ}
 use mir.Facts.{toZ-ofZ, toZ-pos, sfits-widen}
 use borrow.Author.Needs.{needs}
 use Rattle.laws.proofs.Abs.{abs-sfits, sum-fits}
-use Rattle.sbc_quantizer.proofs.Limits.{held-low, held-high, held-between}
+use Rattle.sbc_quantizer.proofs.Limits.{held-low, held-high, held-within}
 use Rattle.sbc_quantizer.proofs.raised.Statement.{statement}
 use Rattle.sbc_quantizer.proofs.raised.Tie as tie
 
@@ -74,7 +74,7 @@ returns-3 : tie.Need-returns-3
 returns-3 c =
     let s = c .before .before in
     toZ-ofZ (sum-ok s) ∙ sum s
-    ∙ sym (held-between _ _ (rw (toZ-ofZ (sum-ok s), sum s) at (c .before .if1 .left))
+    ∙ sym (held-within _ _ (rw (toZ-ofZ (sum-ok s), sum s) at (c .before .if1 .left))
     (rw (toZ-ofZ (sum-ok s), sum s, toZ-ofZ (top-ok s), top s) at (c .if2 .left)))
 
 pub raised-spec : {M : Type 1} → statement M

@@ -7,14 +7,14 @@ use native.Mathlib.Omega.{arith}
 use lib.ListN.{length, getD}
 use lib.IntN.{pos}
 use Rattle.laws.specs.Lists.{build}
-use Rattle.sbc_analyze.specs.Fold.{joinAt, entering}
-use Rattle.sbc_analyze.proofs.History.{none-entered, store-up, joined-at}
+use Rattle.sbc_analyze.specs.Fold.{splicedAt, entering}
+use Rattle.sbc_analyze.proofs.History.{none-entered, store-up, spliced-at}
 use Rattle.sbc_analyze.proofs.analysis.enter.Statement.{statement}
 use Rattle.sbc_analyze.proofs.analysis.enter.Tie as tie
 
 abbrev Inv-loop : tie.InvT-loop
 Inv-loop history₀ input subbands k₀ history k =
-    (k ≤ subbands) × (history ≡ build (length history₀) (joinAt k (entering subbands input) (λ i. getD history₀ i (pos 0))))
+    (k ≤ subbands) × (history ≡ build (length history₀) (splicedAt k (entering subbands input) (λ i. getD history₀ i (pos 0))))
 
 abbrev μ-loop : tie.MeasureT-loop
 μ-loop history₀ input subbands k₀ history k = subbands - k
@@ -50,7 +50,7 @@ loop-again : tie.Need-loop-again Inv-loop μ-loop
 loop-again c = (omega arith, store-up _ _ _ _ _ _ (record { sfits = c .history .given }) (c .before .before .loop .inv .1) refl)
 
 returns : tie.Need-returns Inv-loop μ-loop
-returns c = joined-at _ _ _ _ _ _ (omega arith) (c .before .loop .inv .1)
+returns c = spliced-at _ _ _ _ _ _ (omega arith) (c .before .loop .inv .1)
 
 pub enter-spec : {M : Type 1} → statement M
 enter-spec =

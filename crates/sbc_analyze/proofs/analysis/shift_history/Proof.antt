@@ -7,15 +7,15 @@ use native.Mathlib.Omega.{arith}
 use lib.ListN.{length, getD}
 use lib.IntN.{pos}
 use Rattle.laws.specs.Lists.{build}
-use Rattle.sbc_analyze.specs.Fold.{joinAt, movedUp}
+use Rattle.sbc_analyze.specs.Fold.{splicedAt, movedUp}
 use Rattle.sbc_filterbank.proofs.Bands.{bands-le}
-use Rattle.sbc_analyze.proofs.History.{none-moved, moved-step, joined-at}
+use Rattle.sbc_analyze.proofs.History.{none-moved, moved-step, spliced-at}
 use Rattle.sbc_analyze.proofs.analysis.shift_history.Statement.{statement}
 use Rattle.sbc_analyze.proofs.analysis.shift_history.Tie as tie
 
 abbrev Inv-loop : tie.InvT-loop
 Inv-loop history₀ subbands count k₀ history k =
-    (k ≤ count) × (history ≡ build (length history₀) (joinAt (k + subbands) (λ i. getD history₀ i (pos 0)) (movedUp subbands count history₀)))
+    (k ≤ count) × (history ≡ build (length history₀) (splicedAt (k + subbands) (λ i. getD history₀ i (pos 0)) (movedUp subbands count history₀)))
 
 abbrev μ-loop : tie.MeasureT-loop
 μ-loop history₀ subbands count k₀ history k = k
@@ -54,7 +54,7 @@ loop-again c =
     )
 
 returns : tie.Need-returns Inv-loop μ-loop
-returns c = joined-at _ _ _ _ _ _ (omega arith) (c .before .loop .inv .1)
+returns c = spliced-at _ _ _ _ _ _ (omega arith) (c .before .loop .inv .1)
 
 pub shift-history-spec : {M : Type 1} → statement M
 shift-history-spec =

@@ -13,7 +13,7 @@ use Rattle.sbc_parameters.specs.declared.SbcParameters.{SbcParameters}
 use Rattle.sbc_parameters.specs.Sizes.{sideBits, frameLength}
 use Rattle.sbc_parameters.specs.Header.{header}
 use Rattle.sbc_parameters.proofs.Parsing.{length-header}
-use Rattle.sbc_encode_frame.specs.Pieces.{codingBytes}
+use Rattle.sbc_encode_frame.specs.Parts.{codingBytes}
 use Rattle.sbc_frame.proofs.Written.{blind}
 use Rattle.sbc_encode_frame.proofs.Headed.{headed, length-headed, bodied}
 use borrow.Author.Needs.{needs}

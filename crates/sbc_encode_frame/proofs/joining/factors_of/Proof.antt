@@ -6,7 +6,7 @@ use native.Mathlib.Omega.{arith}
 use borrow.Author.Needs.{needs}
 use Rattle.laws.specs.Lists.{build}
 use Rattle.sbc_frame.specs.Arrays.{below}
-use Rattle.sbc_encode_frame.specs.Pieces.{factorsIn}
+use Rattle.sbc_encode_frame.specs.Parts.{factorsIn}
 use Rattle.sbc_frame.proofs.Rows.{row-none, row-next, row-all}
 use Rattle.sbc_encode_frame.proofs.Maxima.{factorAt, factor-of}
 use Rattle.sbc_encode_frame.proofs.joining.factors_of.Statement.{statement}

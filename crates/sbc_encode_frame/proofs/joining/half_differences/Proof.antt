@@ -12,7 +12,7 @@ use Rattle.laws.specs.Integers.{floorDiv}
 use Rattle.laws.specs.Lists.{build}
 use Rattle.laws.specs.Sums.{upTo}
 use Rattle.laws.proofs.Arrays.{fill-none, stored}
-use Rattle.sbc_encode_frame.specs.Pieces.{halfDifferences}
+use Rattle.sbc_encode_frame.specs.Parts.{halfDifferences}
 use Rattle.sbc_encode_frame.proofs.Halves.{read-half-difference, half-difference-fits, all-filled}
 use Rattle.sbc_encode_frame.proofs.joining.half_differences.Statement.{statement}
 use Rattle.sbc_encode_frame.proofs.joining.half_differences.Tie as tie

@@ -12,7 +12,7 @@ use Rattle.laws.specs.Integers.{floorDiv}
 use Rattle.laws.specs.Lists.{build}
 use Rattle.laws.specs.Sums.{upTo}
 use Rattle.laws.proofs.Arrays.{fill-none, stored}
-use Rattle.sbc_encode_frame.specs.Pieces.{halfSums}
+use Rattle.sbc_encode_frame.specs.Parts.{halfSums}
 use Rattle.sbc_encode_frame.proofs.Halves.{read-half-sum, half-sum-fits, all-filled}
 use Rattle.sbc_encode_frame.proofs.joining.half_sums.Statement.{statement}
 use Rattle.sbc_encode_frame.proofs.joining.half_sums.Tie as tie

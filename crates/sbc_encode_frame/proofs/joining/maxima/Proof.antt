@@ -3,7 +3,7 @@
 use Prim.Native.Nat.{ℕ, _-_, _≤_}
 use mathlib.Core.Path.{_≡_, ap, _∙_}
 use native.Mathlib.Omega.{arith}
-use Rattle.sbc_encode_frame.specs.Pieces.{maximaIn}
+use Rattle.sbc_encode_frame.specs.Parts.{maximaIn}
 use Rattle.sbc_encode_frame.proofs.Maxima.{maxima-none, maxima-next}
 use Rattle.sbc_encode_frame.proofs.joining.maxima.Statement.{statement}
 use Rattle.sbc_encode_frame.proofs.joining.maxima.Tie as tie

@@ -10,7 +10,7 @@ use borrow.Author.Tests.{eq-eqb, ne-eqb}
 use Rattle.laws.specs.Choice.{if_then_else_}
 use Rattle.laws.specs.Lists.{build}
 use Rattle.sbc_frame.specs.Arrays.{below, entry}
-use Rattle.sbc_encode_frame.specs.Pieces.{pickedRow}
+use Rattle.sbc_encode_frame.specs.Parts.{pickedRow}
 use Rattle.sbc_frame.proofs.Rows.{row-none, row-next, row-all}
 use Rattle.sbc_encode_frame.proofs.joining.pick_row.Statement.{statement}
 use Rattle.sbc_encode_frame.proofs.joining.pick_row.Tie as tie

@@ -7,7 +7,7 @@ use native.Mathlib.Nat.{mod-lt}
 use native.Mathlib.Omega.{arith}
 use lib.ListN.{length, length-set}
 use lib.Pow.{pow-pos, pow-mono, shl-exact}
-use Rattle.sbc_encode_frame.specs.Pieces.{bitsIn}
+use Rattle.sbc_encode_frame.specs.Parts.{bitsIn}
 use Rattle.sbc_encode_frame.proofs.Flushing.{joined-lt, byte-lt, unit, taken-up, flushed}
 use Rattle.sbc_encode_frame.proofs.writing.put.Statement.{statement}
 use Rattle.sbc_encode_frame.proofs.writing.put.Tie as tie

@@ -15,7 +15,7 @@ use Rattle.laws.specs.Bits.{bitsOf}
 use Rattle.sbc_quantizer.specs.Quantizing.{quantize}
 use Rattle.sbc_quantizer.proofs.Limits.{quantize-lt}
 use Rattle.sbc_frame.specs.Arrays.{sampleIn, entry}
-use Rattle.sbc_encode_frame.specs.Pieces.{bitsIn, Ready, blockBitsOf}
+use Rattle.sbc_encode_frame.specs.Parts.{bitsIn, Ready, blockBitsOf}
 use Rattle.sbc_frame.proofs.Positions.{total-below}
 use Rattle.sbc_frame.proofs.Blocks.{total-next}
 use Rattle.sbc_encode_frame.proofs.Flushing.{one-more}

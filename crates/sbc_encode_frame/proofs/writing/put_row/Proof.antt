@@ -10,7 +10,7 @@ use lib.Pow.{pow-mono}
 use Rattle.laws.specs.Lists.{collect}
 use Rattle.laws.specs.Bits.{bitsOf}
 use Rattle.sbc_frame.specs.Arrays.{entry}
-use Rattle.sbc_encode_frame.specs.Pieces.{bitsIn, Ready, rowBits}
+use Rattle.sbc_encode_frame.specs.Parts.{bitsIn, Ready, rowBits}
 use Rattle.sbc_frame.proofs.Positions.{times-below}
 use Rattle.sbc_encode_frame.proofs.Flushing.{one-more}
 use Rattle.sbc_encode_frame.proofs.writing.put_row.Statement.{statement}

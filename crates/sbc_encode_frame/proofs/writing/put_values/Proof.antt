@@ -9,7 +9,7 @@ use native.Mathlib.Omega.{arith}
 use lib.ListN.{length}
 use Rattle.laws.specs.Lists.{collect, total}
 use Rattle.sbc_frame.specs.Arrays.{entry}
-use Rattle.sbc_encode_frame.specs.Pieces.{bitsIn, Ready, blockBitsOf, valueBitsOf}
+use Rattle.sbc_encode_frame.specs.Parts.{bitsIn, Ready, blockBitsOf, valueBitsOf}
 use Rattle.sbc_frame.proofs.Positions.{times-below}
 use Rattle.sbc_encode_frame.proofs.Flushing.{one-more}
 use Rattle.sbc_encode_frame.proofs.writing.put_values.Statement.{statement}

@@ -1,6 +1,7 @@
 -- How the code of the encoder takes a frame in parts, for the contracts of its inner functions alone: the subband samples of a channel stand in
 -- an array of 128, eight places a block, scale factors and widths in rows of eight, and the bits of a frame's body are written one field
 -- after the other. Nothing public cites this.
+-- From document 01, "Parameters", "Quantizing" and "Joint stereo".
 use Prim.Native.Nat.{ℕ, _+_, _*_, _-_, _<_, _^_, _≤_}
 use mathlib.Core.Path.{_≡_}
 use mathlib.Core.Bool.{Bool, false, _&&_}
