@@ -10,7 +10,7 @@ use Rattle.laws.specs.Choice.{if_then_else_}
 use Rattle.laws.specs.Answers.{Told, gives, refuses}
 use Rattle.sbc_filterbank.specs.declared.synthesis.Synthesis.{Synthesis}
 use Rattle.sbc_decoder.specs.Decode.{Decoded, finish, decode}
-use Rattle.sbc_decoder.specs.Seek.{Seeked, seek}
+use Rattle.sbc_decoder.specs.Seek.{Seeked, reset, seek}
 use Rattle.sbc_decoder.specs.declared.LastParameters.{LastParameters}
 use Rattle.sbc_decoder.specs.declared.LastParameters.the-variants.{None, Some}
 use Rattle.sbc_decoder.specs.declared.SbcDecoder.{SbcDecoder}
@@ -108,5 +108,8 @@ seekState s position =
     if isDecoder s then afterSeek (seek (decoderIn s) position) else record { answer = seekNumbers (refuses 3); state = s }
 
 -- with nothing to answer, a state that stands for no decoder only stays
+unfoldable pub resetState : DecoderState → DecoderState
+resetState s = if isDecoder s then stateOf (reset (decoderIn s)) else s
+
 unfoldable pub finishState : DecoderState → DecoderState
 finishState s = if isDecoder s then stateOf (finish (decoderIn s)) else s

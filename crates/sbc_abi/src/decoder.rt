@@ -17,7 +17,7 @@ ghost use Rattle.codec.specs.Answers.{toldCoded};
 ghost use Rattle.sbc_decoder.specs.Decode.{newDecoder, decode};
 ghost use Rattle.sbc_decoder.specs.Seek.{toldSeek, seek};
 ghost use Rattle.sbc_abi.specs.Numbers.{codedNumbers};
-ghost use Rattle.sbc_abi.specs.Decoder.{isBlank, isHeld, isDecoder, lastIn, decoderIn, heldNumber, heldNumbers, stateOf, seekNumbers, toldDecode, afterDecode, decodeState, afterSeek, seekState, finishState};
+ghost use Rattle.sbc_abi.specs.Decoder.{isBlank, isHeld, isDecoder, lastIn, decoderIn, heldNumber, heldNumbers, stateOf, seekNumbers, toldDecode, afterDecode, decodeState, afterSeek, seekState, resetState, finishState};
 
 // What a decode call gives back, and the state after it.
 pub struct DecodedState {
@@ -145,6 +145,16 @@ fn new_state() -> DecoderState
     state_of(SbcDecoder::new())
 }
 
+// As created; a state that stands for no decoder stays.
+fn restarted(state: DecoderState) -> DecoderState
+    ensures { λ r. ⌜ r ≡ resetState state ⌝ }
+{
+    if is_decoder(state) {
+        return state_of(decoder_in(state).restarted());
+    }
+    state
+}
+
 // Says that the input has ended; a state that stands for no decoder stays.
 fn finished(state: DecoderState) -> DecoderState
     ensures { λ r. ⌜ r ≡ finishState state ⌝ }
@@ -257,6 +267,14 @@ pub extern "C" fn sbc_decoder_new(decoder: &mut DecoderState)
     ensures { λ _. ⌜ now (decoder .exit) ≡ stateOf newDecoder ⌝ }
 {
     *decoder = new_state();
+}
+
+// Makes the decoder as created.
+#[no_mangle]
+pub extern "C" fn sbc_decoder_reset(decoder: &mut DecoderState)
+    ensures { λ _. ⌜ now (decoder .exit) ≡ resetState (now (decoder .entry)) ⌝ }
+{
+    *decoder = restarted(*decoder);
 }
 
 // Says that the input has ended.
