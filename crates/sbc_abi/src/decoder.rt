@@ -1,0 +1,310 @@
+// The decoder's calls on a state of numbers: by value, and below on one that is lent. A lent one copies the state out, calls the one by value and stores what that gave back.
+use crate::CodedNumbers;
+use crate::DecoderState;
+use crate::NO_PARAMETERS;
+use crate::ParameterNumbers;
+use crate::SeekNumbers;
+use crate::is_set;
+use crate::numbers_of;
+use crate::parameters_in;
+use codec::Coded;
+use sbc_decoder::LastParameters;
+use sbc_decoder::SbcDecoder;
+use sbc_decoder::SeekOutcome;
+use sbc_filterbank::Synthesis;
+ghost use mathlib.Core.Path.{_≡_};
+ghost use Rattle.codec.specs.Answers.{toldCoded};
+ghost use Rattle.sbc_decoder.specs.Decode.{newDecoder, decode};
+ghost use Rattle.sbc_decoder.specs.Seek.{toldSeek, seek};
+ghost use Rattle.sbc_abi.specs.Numbers.{codedNumbers};
+ghost use Rattle.sbc_abi.specs.Decoder.{isBlank, isHeld, isDecoder, lastIn, decoderIn, heldNumber, heldNumbers, stateOf, seekNumbers, toldDecode, afterDecode, decodeState, afterSeek, seekState, resetState, finishState};
+
+// What a decode call gives back, and the state after it.
+pub struct DecodedState {
+    pub answer: CodedNumbers,
+    pub state: DecoderState,
+}
+
+// What a seek gives back, and the state after it.
+pub struct SoughtState {
+    pub answer: SeekNumbers,
+    pub state: DecoderState,
+}
+
+// ---- a decoder as numbers
+
+// Whether all numbers are 0.
+fn is_blank(numbers: ParameterNumbers) -> bool
+    ensures { λ r. ⌜ r ≡ isBlank numbers ⌝ }
+{
+    let settings = numbers.channel_mode as u64
+        + numbers.allocation as u64
+        + numbers.blocks as u64
+        + numbers.subbands as u64;
+    numbers.sample_rate as u64 + settings + numbers.bitpool as u64 == 0
+}
+
+// Whether the numbers stand for the parameters of a last frame, or for none.
+fn is_held(has_parameters: u8, numbers: ParameterNumbers) -> bool
+    ensures { λ r. ⌜ r ≡ isHeld «has_parameters» numbers ⌝ }
+{
+    if has_parameters == 0 {
+        return is_blank(numbers);
+    }
+    has_parameters == 1 && is_set(numbers)
+}
+
+// Whether the numbers of a state stand for a decoder.
+fn is_decoder(state: DecoderState) -> bool
+    ensures { λ r. ⌜ r ≡ isDecoder state ⌝ }
+{
+    state.finishing < 2 && is_held(state.has_parameters, state.parameters)
+}
+
+// The last parameters that numbers stand for.
+fn last_in(has_parameters: u8, numbers: ParameterNumbers) -> LastParameters
+    ensures { λ r. ⌜ r ≡ lastIn «has_parameters» numbers ⌝ }
+{
+    if has_parameters == 1 {
+        return LastParameters::Some(parameters_in(numbers));
+    }
+    LastParameters::None
+}
+
+// The decoder that a state stands for.
+fn decoder_in(state: DecoderState) -> SbcDecoder
+    ensures { λ r. ⌜ r ≡ decoderIn state ⌝ }
+{
+    let left = state.left;
+    let right = state.right;
+    let numbers = state.parameters;
+    SbcDecoder {
+        parameters: last_in(state.has_parameters, numbers),
+        synthesis: [
+            Synthesis {
+                values: left,
+                newest: state.left_newest,
+            },
+            Synthesis {
+                values: right,
+                newest: state.right_newest,
+            },
+        ],
+        finishing: state.finishing == 1,
+        skip: state.skip,
+    }
+}
+
+// Whether there are last parameters, as a number.
+fn held_number(last: LastParameters) -> u8
+    ensures { λ r. ⌜ r ≡ heldNumber last ⌝ }
+{
+    match last {
+        LastParameters::None => 0,
+        LastParameters::Some(_) => 1,
+    }
+}
+
+// The numbers of the last parameters, or zeros.
+fn held_numbers(last: LastParameters) -> ParameterNumbers
+    ensures { λ r. ⌜ r ≡ heldNumbers last ⌝ }
+{
+    match last {
+        LastParameters::None => NO_PARAMETERS,
+        LastParameters::Some(parameters) => numbers_of(parameters),
+    }
+}
+
+// The state of a decoder.
+fn state_of(decoder: SbcDecoder) -> DecoderState
+    ensures { λ r. ⌜ r ≡ stateOf decoder ⌝ }
+{
+    let last = decoder.parameters;
+    let first = decoder.synthesis[0];
+    let second = decoder.synthesis[1];
+    let left = first.values;
+    let right = second.values;
+    DecoderState {
+        left,
+        right,
+        left_newest: first.newest,
+        right_newest: second.newest,
+        skip: decoder.skip,
+        parameters: held_numbers(last),
+        has_parameters: held_number(last),
+        finishing: decoder.finishing as u8,
+    }
+}
+
+// ---- the calls by value
+
+// A state as created.
+fn new_state() -> DecoderState
+    ensures { λ r. ⌜ r ≡ stateOf newDecoder ⌝ }
+{
+    state_of(SbcDecoder::new())
+}
+
+// As created; a state that stands for no decoder stays.
+fn restarted(state: DecoderState) -> DecoderState
+    ensures { λ r. ⌜ r ≡ resetState state ⌝ }
+{
+    if is_decoder(state) {
+        return state_of(decoder_in(state).restarted());
+    }
+    state
+}
+
+// Says that the input has ended; a state that stands for no decoder stays.
+fn finished(state: DecoderState) -> DecoderState
+    ensures { λ r. ⌜ r ≡ finishState state ⌝ }
+{
+    if is_decoder(state) {
+        return state_of(decoder_in(state).finished());
+    }
+    state
+}
+
+// The numbers of what a decode or encode call answers.
+pub fn coded_numbers(answer: Coded) -> CodedNumbers
+    ensures { λ r. ⌜ r ≡ codedNumbers (toldCoded answer) ⌝ }
+{
+    match answer {
+        Coded::Done(progress) => CodedNumbers {
+            consumed: progress.consumed,
+            produced: progress.produced,
+            refusal: 0,
+        },
+        Coded::Refused(error) => CodedNumbers {
+            consumed: 0,
+            produced: 0,
+            refusal: error.number(),
+        },
+    }
+}
+
+// Decodes with a decoder, and gives back its state.
+fn decoded_with(decoder: SbcDecoder, input: &[u8], output: &mut [i16]) -> DecodedState
+    ensures { λ r. ⌜ toldDecode r (now (output .exit)) ≡ afterDecode (decode decoder (now (input .entry)) (now (output .entry))) ⌝ }
+{
+    let result = decoder.decoded(input, output);
+    let answer = result.answer;
+    let next = result.decoder;
+    DecodedState {
+        answer: coded_numbers(answer),
+        state: state_of(next),
+    }
+}
+
+fn decoded(state: DecoderState, input: &[u8], output: &mut [i16]) -> DecodedState
+    ensures { λ r. ⌜ toldDecode r (now (output .exit)) ≡ decodeState state (now (input .entry)) (now (output .entry)) ⌝ }
+{
+    if is_decoder(state) {
+        return decoded_with(decoder_in(state), input, output);
+    }
+    DecodedState {
+        answer: CodedNumbers {
+            consumed: 0,
+            produced: 0,
+            refusal: 3,
+        },
+        state,
+    }
+}
+
+// The numbers of what a seek answers.
+fn seek_numbers(outcome: SeekOutcome) -> SeekNumbers
+    ensures { λ r. ⌜ r ≡ seekNumbers (toldSeek outcome) ⌝ }
+{
+    match outcome {
+        SeekOutcome::At(request) => SeekNumbers {
+            byte_offset: request.byte_offset,
+            skip_frames: request.skip_frames,
+            refusal: 0,
+        },
+        SeekOutcome::Refused(error) => SeekNumbers {
+            byte_offset: 0,
+            skip_frames: 0,
+            refusal: error.number(),
+        },
+    }
+}
+
+// Seeks with a decoder, and gives back its state.
+fn sought_with(decoder: SbcDecoder, position: u64) -> SoughtState
+    ensures { λ r. ⌜ r ≡ afterSeek (seek decoder position) ⌝ }
+{
+    let sought = decoder.sought(position);
+    let outcome = sought.outcome;
+    let next = sought.decoder;
+    SoughtState {
+        answer: seek_numbers(outcome),
+        state: state_of(next),
+    }
+}
+
+fn sought(state: DecoderState, position: u64) -> SoughtState
+    ensures { λ r. ⌜ r ≡ seekState state position ⌝ }
+{
+    if is_decoder(state) {
+        return sought_with(decoder_in(state), position);
+    }
+    SoughtState {
+        answer: SeekNumbers {
+            byte_offset: 0,
+            skip_frames: 0,
+            refusal: 3,
+        },
+        state,
+    }
+}
+
+// ---- the calls on a state that is lent
+
+// Makes a new decoder, whatever stood there.
+#[no_mangle]
+pub extern "C" fn sbc_decoder_new(decoder: &mut DecoderState)
+    ensures { λ _. ⌜ now (decoder .exit) ≡ stateOf newDecoder ⌝ }
+{
+    *decoder = new_state();
+}
+
+// Makes the decoder as created.
+#[no_mangle]
+pub extern "C" fn sbc_decoder_reset(decoder: &mut DecoderState)
+    ensures { λ _. ⌜ now (decoder .exit) ≡ resetState (now (decoder .entry)) ⌝ }
+{
+    *decoder = restarted(*decoder);
+}
+
+// Says that the input has ended.
+#[no_mangle]
+pub extern "C" fn sbc_decoder_finish(decoder: &mut DecoderState)
+    ensures { λ _. ⌜ now (decoder .exit) ≡ finishState (now (decoder .entry)) ⌝ }
+{
+    *decoder = finished(*decoder);
+}
+
+// Decodes frames until no whole one is left, or one is refused.
+#[no_mangle]
+pub extern "C" fn sbc_decoder_decode(
+    decoder: &mut DecoderState,
+    input: &[u8],
+    output: &mut [i16],
+) -> CodedNumbers
+    ensures { λ r. ⌜ toldDecode (record { answer = r; state = now (decoder .exit) }) (now (output .exit)) ≡ decodeState (now (decoder .entry)) (now (input .entry)) (now (output .entry)) ⌝ }
+{
+    let result = decoded(*decoder, input, output);
+    *decoder = result.state;
+    result.answer
+}
+
+// Seeks to a position, counted in samples of one channel from the start of the audio.
+#[no_mangle]
+pub extern "C" fn sbc_decoder_seek(decoder: &mut DecoderState, position: u64) -> SeekNumbers
+    ensures { λ r. ⌜ record { answer = r; state = now (decoder .exit) } ≡ seekState (now (decoder .entry)) position ⌝ }
+{
+    let result = sought(*decoder, position);
+    *decoder = result.state;
+    result.answer
+}

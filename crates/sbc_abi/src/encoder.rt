@@ -1,0 +1,149 @@
+// The encoder's calls on a state of numbers: by value, and below on one that is lent. A lent one copies the state out, calls the one by value and stores what that gave back.
+use crate::CodedNumbers;
+use crate::EncoderState;
+use crate::ParameterNumbers;
+use crate::decoder::coded_numbers;
+use crate::is_accepted;
+use crate::is_set;
+use crate::numbers_of;
+use crate::parameters_in;
+use sbc_encoder::Analysis;
+use sbc_encoder::SbcEncoder;
+ghost use mathlib.Core.Path.{_≡_};
+ghost use Rattle.sbc_encoder.specs.Encode.{encoderOf, encode};
+ghost use Rattle.sbc_abi.specs.Encoder.{encoderIn, stateOf, toldEncode, afterEncode, encodeState, createState, resetState};
+
+// What an encode call gives back, and the state after it.
+pub struct EncodedState {
+    pub answer: CodedNumbers,
+    pub state: EncoderState,
+}
+
+// Whether the parameters of a new encoder are accepted, 0 or 3, and its state.
+pub struct CreatedState {
+    pub refusal: u8,
+    pub state: EncoderState,
+}
+
+// ---- an encoder as numbers
+
+// The encoder that a state stands for.
+fn encoder_in(state: EncoderState) -> SbcEncoder
+    ensures { λ r. ⌜ r ≡ encoderIn state ⌝ }
+{
+    let left = state.left;
+    let right = state.right;
+    let numbers = state.parameters;
+    SbcEncoder {
+        parameters: parameters_in(numbers),
+        analysis: [Analysis { history: left }, Analysis { history: right }],
+    }
+}
+
+// The state of an encoder.
+fn state_of(encoder: SbcEncoder) -> EncoderState
+    ensures { λ r. ⌜ r ≡ stateOf encoder ⌝ }
+{
+    let parameters = encoder.parameters;
+    let first = encoder.analysis[0];
+    let second = encoder.analysis[1];
+    let left = first.history;
+    let right = second.history;
+    EncoderState {
+        left,
+        right,
+        parameters: numbers_of(parameters),
+    }
+}
+
+// ---- the calls by value
+
+// A new encoder with these parameters; the state stays where they are not accepted.
+fn created(state: EncoderState, parameters: ParameterNumbers) -> CreatedState
+    ensures { λ r. ⌜ r ≡ createState state parameters ⌝ }
+{
+    if is_accepted(parameters) {
+        let made = SbcEncoder::new(parameters_in(parameters));
+        let encoder = made.encoder;
+        return CreatedState {
+            refusal: 0,
+            state: state_of(encoder),
+        };
+    }
+    CreatedState { refusal: 3, state }
+}
+
+// Silence again; a state that stands for no encoder stays.
+fn restarted(state: EncoderState) -> EncoderState
+    ensures { λ r. ⌜ r ≡ resetState state ⌝ }
+{
+    let numbers = state.parameters;
+    if is_set(numbers) {
+        return state_of(encoder_in(state).restarted());
+    }
+    state
+}
+
+// Encodes with an encoder, and gives back its state.
+fn encoded_with(encoder: SbcEncoder, input: &[i16], output: &mut [u8]) -> EncodedState
+    ensures { λ r. ⌜ toldEncode r (now (output .exit)) ≡ afterEncode (encode encoder (now (input .entry)) (now (output .entry))) ⌝ }
+{
+    let result = encoder.encoded(input, output);
+    let answer = result.answer;
+    let next = result.encoder;
+    EncodedState {
+        answer: coded_numbers(answer),
+        state: state_of(next),
+    }
+}
+
+fn encoded(state: EncoderState, input: &[i16], output: &mut [u8]) -> EncodedState
+    ensures { λ r. ⌜ toldEncode r (now (output .exit)) ≡ encodeState state (now (input .entry)) (now (output .entry)) ⌝ }
+{
+    let numbers = state.parameters;
+    if is_set(numbers) {
+        return encoded_with(encoder_in(state), input, output);
+    }
+    EncodedState {
+        answer: CodedNumbers {
+            consumed: 0,
+            produced: 0,
+            refusal: 3,
+        },
+        state,
+    }
+}
+
+// ---- the calls on a state that is lent
+
+// Makes a new encoder, with silence in both channels: 0, or 3 where the parameters are not accepted.
+#[no_mangle]
+pub extern "C" fn sbc_encoder_new(encoder: &mut EncoderState, parameters: ParameterNumbers) -> u8
+    ensures { λ r. ⌜ record { refusal = r; state = now (encoder .exit) } ≡ createState (now (encoder .entry)) parameters ⌝ }
+{
+    let made = created(*encoder, parameters);
+    *encoder = made.state;
+    made.refusal
+}
+
+// Silence again; the parameters stay.
+#[no_mangle]
+pub extern "C" fn sbc_encoder_reset(encoder: &mut EncoderState)
+    ensures { λ _. ⌜ now (encoder .exit) ≡ resetState (now (encoder .entry)) ⌝ }
+{
+    *encoder = restarted(*encoder);
+}
+
+// Encodes as many frames as both buffers hold.
+#[no_mangle]
+pub extern "C" fn sbc_encoder_encode(
+    encoder: &mut EncoderState,
+    input: &[i16],
+    output: &mut [u8],
+) -> CodedNumbers
+    ensures { λ r. ⌜ toldEncode (record { answer = r; state = now (encoder .exit) }) (now (output .exit)) ≡ encodeState (now (encoder .entry)) (now (input .entry)) (now (output .entry)) ⌝ }
+{
+    let result = encoded(*encoder, input, output);
+    *encoder = result.state;
+    result.answer
+}
