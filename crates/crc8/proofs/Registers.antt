@@ -1,12 +1,12 @@
--- The register over lists of bits and bytes: one bit or byte more, one list behind another, its bound, and the checksum by its parts.
+-- The register over lists of bits and bytes: one bit or byte more, one list behind another, and the checksum by its parts.
 -- Assumes nothing.
 use Prim.Native.Nat.{ℕ, zero, suc, _+_, _*_, _-_, _/_, _%_, _^_, _≤_, _<_, min}
 use mathlib.Core.Path.{_≡_, refl, sym, ap, ap₂, _∙_}
 use mathlib.Core.Bool.{Bool, true, false, Bool·beq}
 use mathlib.Core.List.{List, [], _∷_, _++_}
 use native.Mathlib.Omega.{arith}
-use lib.Bits.{bitXor, xor-lt}
-use lib.Dec.{leb, eqb, lit<}
+use lib.Bits.{bitXor}
+use lib.Dec.{leb, eqb}
 use lib.ListN.{length, getD, take, drop, drop-of-length-le}
 use lib.Seq.{drop-drop, take-add, take-append-le, take-nil}
 use borrow.Author.Tests.{leb-true, leb-false, eqb-true, eqb-false, eq-eqb, ne-eqb}
@@ -44,26 +44,6 @@ crc-append crc (x ∷ xs) ys = crc-append (crcStep crc x) xs ys
 crc-none : (crc : ℕ) (bits : List Bool) → bits ≡ [] → crcBits crc bits ≡ crc
 unfolding crcBits
 crc-none crc bits e = ap (crcBits crc) e
-
--- a step gives a byte, whatever the register was
-step-lt : (crc : ℕ) (bit : Bool) → crcStep crc bit < 256
-unfolding crcStep
-step-lt crc bit = go (Bool·beq (leb 128 crc) bit)
-  where
-    go : (t : Bool) → (if t then crc % 128 * 2 else bitXor 0x1D (crc % 128 * 2)) < 256
-    go true = omega arith
-    go false = xor-lt 8 0x1D (crc % 128 * 2) (lit< tt) (omega arith)
-
--- a register that fits a byte stays so
-pub crc-lt : (crc : ℕ) (bits : List Bool) → crc < 256 → crcBits crc bits < 256
-unfolding crcBits
-crc-lt crc [] h = h
-crc-lt crc (bit ∷ bits) h = crc-lt (crcStep crc bit) bits (step-lt crc bit)
-
--- a checksum fits a byte
-pub checksum-lt : (frame : List ℕ) (sideBits : ℕ) → checksum frame sideBits < 256
-unfolding checksum
-checksum-lt frame sideBits = crc-lt 0x0F (covered frame sideBits) (lit< tt)
 
 -- ---- the bits of a byte
 -- the first of the bits that are left

@@ -21,7 +21,7 @@ use Rattle.laws.proofs.Ring.{+ℤ-swap}
 pub sub-of-le : (a b : ℕ) → b ≤ a → subℕ a b ≡ pos (a - b)
 sub-of-le a b h = rw (le-ltb a b h)
 
-sub-of-lt : (a b : ℕ) → a < b → subℕ a b ≡ negsuc (b - suc a)
+pub sub-of-lt : (a b : ℕ) → a < b → subℕ a b ≡ negsuc (b - suc a)
 sub-of-lt a b h = rw (lt-ltb a b h)
 
 -- what holds in each of the two cases holds of the difference

@@ -1,11 +1,11 @@
 // Samples of 16 bits as bytes, little endian.
 ghost use mathlib.Core.Path.{_≡_};
 ghost use mathlib.Core.List.{[], _∷_};
-ghost use Prim.Native.Nat.{_+_, _*_, _/_, _%_};
+ghost use Prim.Native.Nat.{_*_, _/_, _%_};
 ghost use lib.ListN.{length, getD};
 ghost use lib.IntN.{pos};
-ghost use Rattle.laws.specs.Lists.{collect, build};
-ghost use Rattle.pcm.specs.Samples.{signedOf, unsignedOf, sampleOf, lowByte, highByte};
+ghost use Rattle.laws.specs.Lists.{collect};
+ghost use Rattle.pcm.specs.Samples.{signedOf, unsignedOf, sampleOf, samplesIn, lowByte, highByte};
 
 // The sample whose two's complement is n.
 fn signed(n: u16) -> i16
@@ -49,7 +49,7 @@ fn high_byte(n: u16) -> u8
 // Reads each sample from its two bytes.
 pub fn read(bytes: &[u8], samples: &mut [i16])
     requires { ⌜ length (now bytes) ≡ 2 * length (now samples) ⌝ }
-    ensures { λ _. ⌜ now (samples .exit) ≡ build (length (now (samples .entry))) (λ i. sampleOf (getD (now (bytes .entry)) (2 * i) 0) (getD (now (bytes .entry)) (2 * i + 1) 0)) ⌝ }
+    ensures { λ _. ⌜ now (samples .exit) ≡ samplesIn (length (now (samples .entry))) (now (bytes .entry)) ⌝ }
 {
     for i in 0..samples.len() {
         samples[i] = sample(bytes[2 * i], bytes[2 * i + 1]);

@@ -20,13 +20,14 @@ use Rattle.sbc_parameters.proofs.Accepted.{frame-length-range}
 use Rattle.sbc_frame.specs.Fields.{Fields}
 use Rattle.sbc_frame.proofs.Coding.{encode-fits}
 use Rattle.codec.specs.Answers.{progressOf, wholeFrames}
-use Rattle.sbc_encoder.specs.Encode.{histories, withHistories, encoderOf, newEncoder, nextEncoder, encoderAfter, encodedFrames, packAll, encode}
+use Rattle.sbc_encoder.specs.Encode.{histories, withHistories, encoderOf, newEncoder, nextEncoder, encodedFrames, packAll, encode}
 use Rattle.sbc_decoder.specs.Decode.{newDecoder, finish, withFinishing, nextDecoder, Step, none-whole, refused, taken, decodeAll, answerOf, decode}
 use Rattle.sbc.specs.TwoLanguages.{Action, encodes, finishes, decodes, State, Result, After, afterEncode, afterDecode, after, run}
 use Rattle.codec.specs.declared.Progress.{Progress}
 use Rattle.sbc_encoder.specs.declared.SbcEncoder.{SbcEncoder}
 use Rattle.sbc_decoder.specs.declared.SbcDecoder.{SbcDecoder}
 use Rattle.codec.proofs.Fitting.{none-out}
+use Rattle.sbc_encoder.proofs.Writing.{parameters-after}
 use Rattle.sbc.proofs.Streams.{longer, piece-from, AllFit, none-fit, one-fits, fit-append, fit-drop}
 use Rattle.sbc.proofs.Encoded.{answerFor, Call, encode-call}
 use Rattle.sbc.proofs.Played.{decoderAfter, endingFor, played, still-unskipped, decode-played}
@@ -59,11 +60,6 @@ pub record Ready (p : SbcParameters) (s : State) : Type 0 where
   pub fit : AllFit p frames
 
 -- ---- encode
-encoder-keeps : (n : ℕ) (e : SbcEncoder) (pcm : List ℤ) → encoderAfter n e pcm .parameters ≡ e .parameters
-unfolding encoderAfter nextEncoder withHistories
-encoder-keeps zero e pcm = refl
-encoder-keeps (suc n) e pcm = encoder-keeps n (nextEncoder e pcm) (drop (frameSamples (e .parameters)) pcm)
-
 -- what is encoded fits frames
 pub frames-fit : (n : ℕ) (e : SbcEncoder) (pcm : List ℤ) → AllFit (e .parameters) (encodedFrames n e pcm)
 unfolding encodedFrames nextEncoder withHistories
@@ -113,7 +109,7 @@ module _ (p : SbcParameters) (a : accepted p ≡ true) where
         took = encoding refl (subst (Answered n (frameSamples p) (frameLength p)) (sym (call .answer)) (encode-answered p (length pcm) (length output)));
         ready =
             record {
-              parameters = ap (λ x. x .parameters) (call .encoder) ∙ encoder-keeps n e pcm ∙ g .parameters;
+              parameters = ap (λ x. x .parameters) (call .encoder) ∙ parameters-after n e pcm ∙ g .parameters;
               skip = g .skip;
               frames = g .frames ++ encodedFrames n e pcm;
               stream = longer p (s .stream) _ (g .frames) (encodedFrames n e pcm) (g .stream) (call .written);

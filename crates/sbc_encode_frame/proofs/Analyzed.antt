@@ -20,10 +20,10 @@ use Rattle.laws.proofs.Arrays.{getD-filled, overwrite-below, overwrite-at}
 use Rattle.sbc_filterbank.specs.Subbands.{Bands, padded}
 use Rattle.sbc_filterbank.specs.Analysis.{shiftedAt, shifted, analysisOutputs}
 use Rattle.sbc_filterbank.proofs.Bands.{bands-le, padded-at}
-use Rattle.sbc_frame.specs.Channels.{analyzeBlocks, analysisAfter}
+use Rattle.sbc_frame.specs.Channels.{pcmIn, analyzeBlocks, analysisAfter}
 use Rattle.sbc_frame.specs.Encoding.{sampleAt}
 use Rattle.sbc_frame.specs.Arrays.{sampleIn}
-use Rattle.sbc_encode_frame.specs.Parts.{pcmIn, SamplesIn}
+use Rattle.sbc_encode_frame.specs.Parts.{SamplesIn}
 use Rattle.sbc_frame.proofs.Blocks.{analysis-after-next, analyze-next, length-analyzeBlocks}
 
 -- ---- a block

@@ -15,8 +15,9 @@ use lib.Arith.{digits-lt}
 use Rattle.laws.specs.Lists.{collect}
 use Rattle.laws.specs.Bits.{odd, bitsOf, bitsOfBytes, bytesOf}
 use Rattle.laws.proofs.Bits.{length-bitsOf, length-bitsOfBytes, bits-low, bits-append, bits-of-append, bytes-bits, Bytes}
+use Rattle.sbc_frame.specs.Layout.{filled}
 use Rattle.sbc_encode_frame.specs.declared.writing.Writer.{Writer}
-use Rattle.sbc_encode_frame.specs.Parts.{bitsIn, filled}
+use Rattle.sbc_encode_frame.specs.Parts.{bitsIn}
 
 -- ---- numbers
 -- a number of n bits behind one of m bits has m + n

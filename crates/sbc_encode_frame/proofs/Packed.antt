@@ -1,7 +1,7 @@
 -- What the code writes of a frame is the frame's bytes: its rows and samples are the fields of the definition, and their bits in the order of
 -- the code are the bits of the body.
 -- Assumes nothing.
-use Prim.Native.Nat.{ℕ, zero, suc, _+_, _-_, _*_, _≤_, _<_}
+use Prim.Native.Nat.{ℕ, zero, suc, _-_, _*_, _≤_, _<_}
 use mathlib.Core.Path.{_≡_, refl, sym, ap, ap₂, _∙_}
 use mathlib.Core.Logic.{_⊎_, inl, inr}
 use mathlib.Core.Bool.{Bool, true, false}
@@ -9,12 +9,12 @@ use mathlib.Core.List.{List, [], _∷_, _++_, append-assoc, append-nil}
 use native.Mathlib.Nat.{le-of-suc-le-suc, eq-or-lt-of-le}
 use native.Mathlib.Omega.{arith}
 use lib.Dec.{ltb}
-use lib.IntN.{ℤ, pos}
-use lib.ListN.{length, getD, replicate}
+use lib.IntN.{ℤ}
+use lib.ListN.{length, getD}
 use borrow.Author.Tests.{ltb-true, ltb-false, lt-ltb}
 use Rattle.laws.specs.Choice.{if_then_else_}
 use Rattle.laws.specs.Lists.{collect, build}
-use Rattle.laws.specs.Bits.{odd, digit, bitsOf, bytesOf}
+use Rattle.laws.specs.Bits.{odd, digit, bitsOf}
 use Rattle.laws.proofs.Lists.{length-build, getD-build}
 use Rattle.crc8.specs.Checksum.{checksum}
 use Rattle.sbc_parameters.specs.declared.SbcParameters.{SbcParameters}
@@ -25,11 +25,11 @@ use Rattle.sbc_parameters.proofs.Accepted.{channels-range, ranges}
 use Rattle.sbc_allocation.specs.Allocate.{allocationTable}
 use Rattle.sbc_quantizer.specs.Quantizing.{quantize}
 use Rattle.sbc_frame.specs.Fields.{Fields, factorAt, valueAt, widthAt}
-use Rattle.sbc_frame.specs.Layout.{flagBits, channelFactorBits, factorBits, channelValueBits, blockValueBits, valueBits, bodyBits, body, pack}
-use Rattle.sbc_frame.specs.Channels.{channelPcm, analyzeBlocks, analysisAfter}
+use Rattle.sbc_frame.specs.Layout.{flagBits, channelFactorBits, factorBits, channelValueBits, blockValueBits, valueBits, bodyBits, filled, body, pack}
+use Rattle.sbc_frame.specs.Channels.{pcmIn, channelPcm, analyzeBlocks, analysisAfter}
 use Rattle.sbc_frame.specs.Encoding.{sampleAt, channelSamples, factorOf, isJoined, codedAt, codedFactors, codedValues, codedFields, analysisHistories}
 use Rattle.sbc_frame.specs.Arrays.{entry}
-use Rattle.sbc_encode_frame.specs.Parts.{pcmIn, SamplesIn, ChannelsIn, CodingIn, rowBits, blockBitsOf, valueBitsOf, filled, codingBits, codingBytes}
+use Rattle.sbc_encode_frame.specs.Parts.{SamplesIn, ChannelsIn, CodingIn, rowBits, blockBitsOf, valueBitsOf, codingBits, codingBytes}
 use Rattle.sbc_frame.proofs.Widths.{Enough, allocate-agree, table-width, width-none, width-absent}
 use Rattle.sbc_frame.proofs.Sizes.{row-sizes}
 
@@ -214,10 +214,10 @@ module _ (p : SbcParameters) (a : accepted p ≡ true) (samples : ℕ → List (
       ∙ ap₂ {C = List Bool} (λ xs ys. xs ++ ys) factors-packed values-packed)
 
   pub frame-packed : codingBytes p flags lf rf left right ≡ pack p fields
-  unfolding codingBytes pack body filled
+  unfolding codingBytes pack body
   frame-packed =
       ap (λ (bits : List Bool).
-      let rest = bytesOf (frameLength p - 4) (bits ++ replicate (8 * (frameLength p - 4) - length bits) false) in
+      let rest = filled (frameLength p - 4) bits in
       header p ++ (checksum (header p ++ (0 ∷ rest)) (sideBits p) ∷ rest)) bits-packed
 
 -- ---- a frame from PCM: the two channels' histories and samples, where C is the number of channels
@@ -226,8 +226,8 @@ module _ (p : SbcParameters) (C : ℕ) (e : C ≡ channels p) (l r input : List 
   pcm c = pcmIn C c (p .blocks * p .subbands) input
 
   pcm-is : (c : ℕ) → pcm c ≡ channelPcm p input c
-  unfolding pcmIn channelPcm samplesPerChannel
-  pcm-is c = ap (λ (n : ℕ). build (p .blocks * p .subbands) (λ i. getD input (i * n + c) (pos 0))) e
+  unfolding channelPcm samplesPerChannel
+  pcm-is c = ap (λ (n : ℕ). pcmIn n c (p .blocks * p .subbands) input) e
 
   -- the histories after it
   pub histories-analyzed : (l′ r′ : List ℤ) → l′ ≡ analysisAfter (p .blocks) (p .subbands) l (pcm 0) → (C ≡ 1 → r′ ≡ r)

@@ -4,14 +4,14 @@
 -- From document 01, "Parameters", "Quantizing" and "Joint stereo".
 use Prim.Native.Nat.{ℕ, _+_, _*_, _-_, _<_, _^_, _≤_}
 use mathlib.Core.Path.{_≡_}
-use mathlib.Core.Bool.{Bool, false, _&&_}
+use mathlib.Core.Bool.{Bool, _&&_}
 use mathlib.Core.List.{List, [], _∷_, _++_}
 use lib.Dec.{eqb, ltb}
-use lib.ListN.{length, getD, take, replicate}
+use lib.ListN.{length, getD, take}
 use lib.IntN.{ℤ, pos, natAbs, _+ℤ_, _-ℤ_}
 use Rattle.laws.specs.Choice.{if_then_else_}
 use Rattle.laws.specs.Lists.{collect, build, greatest}
-use Rattle.laws.specs.Bits.{digit, bitsOf, bitsOfBytes, bytesOf}
+use Rattle.laws.specs.Bits.{digit, bitsOf, bitsOfBytes}
 use Rattle.laws.specs.Integers.{floorDiv}
 use Rattle.crc8.specs.Checksum.{checksum}
 use Rattle.sbc_parameters.specs.Parameters.{channels}
@@ -20,15 +20,12 @@ use Rattle.sbc_parameters.specs.Header.{header}
 use Rattle.sbc_parameters.specs.declared.SbcParameters.{SbcParameters}
 use Rattle.sbc_allocation.specs.Allocate.{allocationTable}
 use Rattle.sbc_quantizer.specs.Quantizing.{scaleFactor, quantize}
+use Rattle.sbc_frame.specs.Layout.{filled}
 use Rattle.sbc_frame.specs.Encoding.{sampleAt, factorOf, isJoined, codedAt}
 use Rattle.sbc_frame.specs.Arrays.{sampleIn, entry}
 use Rattle.sbc_encode_frame.specs.declared.writing.Writer.{Writer}
 
 -- ---- from PCM to samples
-
--- n samples of channel c in PCM of C channels
-unfoldable pub pcmIn : ℕ → ℕ → ℕ → List ℤ → List ℤ
-pcmIn C c n input = build n (λ i. getD input (i * C + c) (pos 0))
 
 -- an array holds the samples of n blocks, and zeros behind a block's S samples
 abbrev pub SamplesIn : ℕ → List (List ℤ) → List ℤ → Type 0
@@ -40,6 +37,7 @@ SamplesIn n samples xs = (b s : ℕ) → b < n → s < 8 → sampleIn xs b s ≡
 unfoldable pub maximaIn : ℕ → List ℤ → List ℕ
 maximaIn n xs = build 8 (λ s. greatest n (λ b. natAbs (sampleIn xs b s)))
 
+-- the scale factor of each subband in n blocks
 unfoldable pub factorsIn : ℕ → List ℤ → List ℕ
 factorsIn n xs = build 8 (λ s. scaleFactor (greatest n (λ b. natAbs (sampleIn xs b s))))
 
@@ -81,10 +79,6 @@ blockBitsOf xs widths factors b = collect 8 (λ s. bitsOf (entry widths s) (quan
 unfoldable pub valueBitsOf : List ℤ → List ℤ → List ℕ → List ℕ → List ℕ → List ℕ → ℕ → List Bool
 valueBitsOf left right left-widths right-widths left-factors right-factors n =
     collect n (λ b. blockBitsOf left left-widths left-factors b ++ blockBitsOf right right-widths right-factors b)
-
--- bits as bytes, with zeros behind them
-unfoldable pub filled : ℕ → List Bool → List ℕ
-filled size bits = bytesOf size (bits ++ replicate (8 * size - length bits) false)
 
 -- ---- a frame
 

@@ -9,8 +9,8 @@ ghost use Rattle.laws.specs.Lists.{build};
 ghost use Rattle.laws.specs.Sums.{upTo, overwrite};
 ghost use Rattle.sbc_filterbank.specs.Analysis.{shifted, analysisOutputs};
 ghost use Rattle.sbc_filterbank.specs.Subbands.{Bands, padded};
-ghost use Rattle.sbc_frame.specs.Channels.{analyzeBlocks, analysisAfter};
-ghost use Rattle.sbc_encode_frame.specs.Parts.{pcmIn, SamplesIn};
+ghost use Rattle.sbc_frame.specs.Channels.{pcmIn, analyzeBlocks, analysisAfter};
+ghost use Rattle.sbc_encode_frame.specs.Parts.{SamplesIn};
 
 // `count` samples of a channel, from its sample `from` on. PCM of two channels alternates.
 fn pcm_block(input: &[i16], from: usize, count: usize, channel: usize, channels: usize) -> [i16; 8]

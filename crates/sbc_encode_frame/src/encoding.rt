@@ -21,11 +21,11 @@ ghost use lib.IntN.{ℤ};
 ghost use Rattle.sbc_filterbank.specs.Subbands.{Bands};
 ghost use Rattle.sbc_parameters.specs.Parameters.{channels, accepted};
 ghost use Rattle.sbc_parameters.specs.Sizes.{joinCount, frameLength, frameSamples};
-ghost use Rattle.sbc_frame.specs.Layout.{pack};
-ghost use Rattle.sbc_frame.specs.Channels.{analyzeBlocks, analysisAfter};
+ghost use Rattle.sbc_frame.specs.Layout.{filled, pack};
+ghost use Rattle.sbc_frame.specs.Channels.{pcmIn, analyzeBlocks, analysisAfter};
 ghost use Rattle.sbc_frame.specs.Encoding.{encodeFields, analysisHistories};
 ghost use Rattle.sbc_frame.specs.Arrays.{entry};
-ghost use Rattle.sbc_encode_frame.specs.Parts.{pcmIn, SamplesIn, ChannelsIn, CodingRows, CodingIn, codingBits, codingBytes, filled};
+ghost use Rattle.sbc_encode_frame.specs.Parts.{SamplesIn, ChannelsIn, CodingRows, CodingIn, codingBits, codingBytes};
 
 // What is coded of a frame: join flags, scale factors and samples; rows of eight, and eight places a block.
 struct Coding {

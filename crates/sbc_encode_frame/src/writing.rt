@@ -6,8 +6,9 @@ ghost use Prim.Native.Nat.{ℕ, _+_, _*_, _^_, _≤_, _<_};
 ghost use lib.ListN.{length, getD};
 ghost use Rattle.laws.specs.Bits.{bitsOf};
 ghost use Rattle.laws.specs.Lists.{total};
+ghost use Rattle.sbc_frame.specs.Layout.{filled};
 ghost use Rattle.sbc_frame.specs.Arrays.{entry};
-ghost use Rattle.sbc_encode_frame.specs.Parts.{bitsIn, Ready, rowBits, blockBitsOf, valueBitsOf, filled};
+ghost use Rattle.sbc_encode_frame.specs.Parts.{bitsIn, Ready, rowBits, blockBitsOf, valueBitsOf};
 
 // Where the next whole byte goes, and the bits that do not fill a byte yet. By value, so that it stays in registers.
 pub struct Writer {

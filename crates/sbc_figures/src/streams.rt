@@ -13,7 +13,8 @@ ghost use mathlib.Core.Path.{_≡_};
 ghost use Prim.Native.Nat.{_*_};
 ghost use lib.ListN.{length};
 ghost use Rattle.io.specs.Counts.{Counts};
-ghost use Rattle.sbc_figures.specs.Distance.{differing, farthest, samplesIn};
+ghost use Rattle.sbc_figures.specs.Distance.{differing, farthest};
+ghost use Rattle.pcm.specs.Samples.{samplesIn};
 
 // How far their samples may be from ours: their tables are coarser.
 const NEAR: u32 = 8;

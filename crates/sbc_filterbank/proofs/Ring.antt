@@ -7,7 +7,7 @@ use mathlib.Core.Bool.{Bool, true, false}
 use mathlib.Core.List.{List, [], _∷_}
 use native.Mathlib.Omega.{arith}
 use lib.Dec.{ltb}
-use lib.ListN.{length, getD, take, replicate, length-take, length-replicate, getD-replicate}
+use lib.ListN.{length, getD, take, length-take}
 use lib.Seq.{getD-take}
 use lib.IntN.{ℤ, pos}
 use borrow.Author.Tests.{ltb-true, ltb-false}
@@ -82,16 +82,6 @@ module _ {S : ℕ} (v values : List ℤ) (newest : ℕ) (bands : Bands S) (l : l
       each (suc b) h =
           older-is b (omega arith)
           ∙ sym (getD-take 9 (ring S values newest) b [] (omega arith) ∙ getD-build 10 (slotVector S values newest) b [] (omega arith))
-
--- a new ring holds ten vectors of zeros
-pub ring-new : {S : ℕ} (newest : ℕ) → Bands S → ring S (replicate 160 (pos 0)) newest ≡ replicate 10 (replicate (2 * S) (pos 0))
-unfolding ring slotVector
-ring-new {S} newest b =
-    build-is 10 _ (replicate 10 (replicate (2 * S) (pos 0))) [] (length-replicate 10 (replicate (2 * S) (pos 0)))
-    (λ n h. build-is (2 * S) _ (replicate (2 * S) (pos 0)) (pos 0) (length-replicate (2 * S) (pos 0))
-    (λ r p. getD-replicate 160 _ (pos 0) (pos 0) (place-below ((newest + n) % 10) r b (omega arith) p)
-    ∙ sym (getD-replicate (2 * S) r (pos 0) (pos 0) p))
-    ∙ sym (getD-replicate 10 n (replicate (2 * S) (pos 0)) [] h))
 
 -- so the outputs after a block are those of the list with the block's vector pushed
 pub outputs-push : {S : ℕ} (s values : List ℤ) (newest : ℕ) → Bands S → length values ≡ 160

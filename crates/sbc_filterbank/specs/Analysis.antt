@@ -17,6 +17,7 @@ abbrev pub shiftedAt : ℕ → List ℤ → List ℤ → ℕ → ℤ
 shiftedAt S X input k =
     if ltb k S then getD input (S - 1 - k) (pos 0) else (if ltb k (10 * S) then getD X (k - S) (pos 0) else getD X k (pos 0))
 
+-- the next X
 unfoldable pub shifted : ℕ → List ℤ → List ℤ → List ℤ
 shifted S X input = build (length X) (shiftedAt S X input)
 
@@ -24,6 +25,7 @@ shifted S X input = build (length X) (shiftedAt S X input)
 abbrev pub windowTerm : ℕ → List ℤ → ℕ → ℕ → ℤ
 windowTerm S X k j = prototypeAt S (k + 2 * S * j) *ℤ getD X (k + 2 * S * j) (pos 0)
 
+-- Y[k]
 unfoldable pub windowed : ℕ → List ℤ → ℕ → ℤ
 windowed S X k = floorDiv (sumZ 5 (windowTerm S X k)) (2 ^ 15)
 
@@ -34,6 +36,7 @@ analysisCosine S i k = cosineAt (pos (2 * i + 1) *ℤ (pos k -ℤ pos (S / 2)) *
 abbrev pub subbandTerm : ℕ → (ℕ → ℤ) → ℕ → ℕ → ℤ
 subbandTerm S Y i k = analysisCosine S i k *ℤ Y k
 
+-- output i
 unfoldable pub subbandSample : ℕ → (ℕ → ℤ) → ℕ → ℤ
 subbandSample S Y i = floorDiv (sumZ (2 * S) (subbandTerm S Y i)) (2 ^ 33)
 

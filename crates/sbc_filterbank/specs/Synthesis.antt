@@ -20,9 +20,11 @@ synthesisCosine S r i = cosineAt (pos ((2 * i + 1) * (r + S / 2) * (8 / S)))
 abbrev pub modulateTerm : ℕ → List ℤ → ℕ → ℕ → ℤ
 modulateTerm S s r i = synthesisCosine S r i *ℤ getD s i (pos 0)
 
+-- V[r]
 unfoldable pub modulatedAt : ℕ → List ℤ → ℕ → ℤ
 modulatedAt S s r = clampZ w32 (floorDiv (sumZ S (modulateTerm S s r)) (2 ^ 30))
 
+-- V
 unfoldable pub modulated : ℕ → List ℤ → List ℤ
 modulated S s = build (2 * S) (modulatedAt S s)
 
@@ -46,6 +48,7 @@ sampleTerm S vs j b = prototypeAt S (b * S + j) *ℤ vectorAt vs b (vectorPlace 
 abbrev pub roundingBits : ℕ → ℕ
 roundingBits S = if eqb S 4 then 38 else 37
 
+-- output j, from its sum
 unfoldable pub rounded : ℕ → ℤ → ℤ
 rounded S sum = clampZ w16 (floorDiv (pos (2 ^ (roundingBits S - 1)) -ℤ sum) (2 ^ roundingBits S))
 

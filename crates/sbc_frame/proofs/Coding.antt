@@ -22,7 +22,7 @@ use Rattle.sbc_quantizer.proofs.Factors.{scale-factor-le}
 use Rattle.sbc_quantizer.proofs.Limits.{quantize-lt}
 use Rattle.sbc_filterbank.specs.declared.synthesis.Synthesis.{Synthesis}
 use Rattle.sbc_frame.specs.Fields.{Fields, widthAt, WellFormed}
-use Rattle.sbc_frame.specs.Channels.{channelPcm, interleave, noAnalysis, analyzeBlocks, analysisAfter}
+use Rattle.sbc_frame.specs.Channels.{pcmIn, channelPcm, interleave, noAnalysis, analyzeBlocks, analysisAfter}
 use Rattle.sbc_frame.specs.Channels.{noSynthesis, synthesizeBlocks, synthesisAfter}
 use Rattle.sbc_frame.specs.Encoding.{channelSamples, sampleAt, factorOf, isJoined, codedAt, codedFactors, codedValues, codedFields}
 use Rattle.sbc_frame.specs.Encoding.{encodeFields, analysisHistories}
@@ -182,7 +182,7 @@ module _ (p : SbcParameters) (dual : p .«channel_mode» ≡ DualChannel) where
 
     module _ (h₁ h₂ : List (List ℤ)) (xs ys : List ℤ) (e : getD h₁ c noAnalysis ≡ getD h₂ c noAnalysis) (same : SameAt c xs ys) where
       pcm-same : channelPcm p xs c ≡ channelPcm p ys c
-      unfolding channelPcm
+      unfolding channelPcm pcmIn
       pcm-same = build-ext (samplesPerChannel p) _ _ (λ i _. same (i * channels p + c) (rw two-channels (omega arith)))
 
       -- equal histories and samples of a channel give equal fields of it

@@ -15,7 +15,7 @@ use Rattle.sbc_parameters.specs.declared.SbcParameters.{SbcParameters}
 use Rattle.sbc_parameters.specs.Parameters.{channels, accepted}
 use Rattle.sbc_parameters.specs.Sizes.{joinCount, sideBits, blockBits, frameLength}
 use Rattle.sbc_frame.specs.Fields.{Fields, joinAt, factorAt, valueAt, widthAt, channelWidth}
-use Rattle.sbc_frame.specs.Layout.{flagBits, channelFactorBits, factorBits, channelValueBits, blockValueBits, valueBits, bodyBits, body, pack}
+use Rattle.sbc_frame.specs.Layout.{flagBits, channelFactorBits, factorBits, channelValueBits, blockValueBits, valueBits, bodyBits, filled, body, pack}
 use Rattle.sbc_frame.specs.Layout.{factorPosition, valuePosition}
 use Rattle.sbc_frame.proofs.Widths.{Enough, block-width}
 use Rattle.sbc_frame.proofs.Positions.{side-bits, frame-room}
@@ -82,7 +82,7 @@ module _ (p : SbcParameters) (f : Fields) where
 
     -- the bits of the body are those of the fields, and spare ones
     pub bits-body : bitsOfBytes (body p f) ≡ bodyBits p f ++ spareBits p f
-    unfolding body
+    unfolding body filled
     bits-body =
         let n : ℕ = frameLength p - 4 in
         bits-bytes n (bodyBits p f ++ spareBits p f)

@@ -16,7 +16,7 @@ use Rattle.sbc_parameters.specs.Sizes.{sideBits, frameLength}
 use Rattle.sbc_parameters.specs.Header.{header, parse}
 use Rattle.sbc_parameters.proofs.Parsing.{length-header, parse-header}
 use Rattle.sbc_frame.specs.Fields.{Fields}
-use Rattle.sbc_frame.specs.Layout.{bodyBits, body, pack}
+use Rattle.sbc_frame.specs.Layout.{bodyBits, filled, body, pack}
 
 -- ---- three bytes, one byte, and the rest
 four : (h : List ℕ) (x : ℕ) (rest : List ℕ) → length h ≡ 3 → drop 4 (h ++ (x ∷ rest)) ≡ rest
@@ -47,7 +47,7 @@ module _ (p : SbcParameters) (f : Fields) where
 
   -- ---- lengths
   length-body : length (body p f) ≡ frameLength p - 4
-  unfolding body
+  unfolding body filled
   length-body = length-bytesOf (frameLength p - 4) (bodyBits p f ++ spareBits)
 
   -- a frame has its length

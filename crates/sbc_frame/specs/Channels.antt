@@ -14,9 +14,13 @@ use Rattle.sbc_filterbank.specs.declared.synthesis.Synthesis.{Synthesis}
 
 -- ---- PCM of two channels alternates, left first
 
--- the samples of one channel
+-- n samples of channel c in PCM of C channels
+unfoldable pub pcmIn : ℕ → ℕ → ℕ → List ℤ → List ℤ
+pcmIn C c n pcm = build n (λ i. getD pcm (i * C + c) (pos 0))
+
+-- a frame's samples of channel c
 unfoldable pub channelPcm : SbcParameters → List ℤ → ℕ → List ℤ
-channelPcm p pcm c = build (samplesPerChannel p) (λ i. getD pcm (i * channels p + c) (pos 0))
+channelPcm p pcm c = pcmIn (channels p) c (samplesPerChannel p) pcm
 
 -- all channels' samples
 unfoldable pub interleave : SbcParameters → (ℕ → List ℤ) → List ℤ

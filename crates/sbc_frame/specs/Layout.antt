@@ -43,11 +43,13 @@ valueBits p f = collect (p .blocks) (blockValueBits p f)
 unfoldable pub bodyBits : SbcParameters → Fields → List Bool
 bodyBits p f = flagBits p f ++ (factorBits p f ++ valueBits p f)
 
--- the bytes behind byte 3; the spare bits of the last are 0
+-- bits as so many bytes; the spare bits are 0
+unfoldable pub filled : ℕ → List Bool → List ℕ
+filled size bits = bytesOf size (bits ++ replicate (8 * size - length bits) false)
+
+-- the bytes behind byte 3
 unfoldable pub body : SbcParameters → Fields → List ℕ
-body p f =
-    let size = frameLength p - 4 in
-    bytesOf size (bodyBits p f ++ replicate (8 * size - length (bodyBits p f)) false)
+body p f = filled (frameLength p - 4) (bodyBits p f)
 
 -- header, checksum, body; the checksum does not look at byte 3
 unfoldable pub pack : SbcParameters → Fields → List ℕ

@@ -40,12 +40,14 @@ allocations = Loudness ∷ Snr ∷ []
 unfoldable pub subbandCounts : List ℕ
 subbandCounts = 4 ∷ 8 ∷ []
 
+-- the index of a mode
 abbrev pub modeNumber : SbcChannelMode → ℕ
 modeNumber Mono = 0
 modeNumber DualChannel = 1
 modeNumber Stereo = 2
 modeNumber JointStereo = 3
 
+-- the index of an allocation
 abbrev pub allocationNumber : SbcAllocation → ℕ
 allocationNumber Loudness = 0
 allocationNumber Snr = 1

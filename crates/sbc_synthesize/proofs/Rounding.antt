@@ -9,10 +9,10 @@ use lib.Dec.{ltb, lit≤, lit<}
 use lib.IntN.{ℤ, pos, negsuc, negℤ, natAbs, subℕ, _+ℤ_, _-ℤ_, +ℤ-comm, +ℤ-idl}
 use mir.Syntax.{w16, w32, w64}
 use mir.Val.{SFits}
-use borrow.Author.Tests.{eq-eqb, ne-eqb, ltb-true, ltb-false, lt-ltb}
+use borrow.Author.Tests.{eq-eqb, ne-eqb, ltb-true, ltb-false}
 use Rattle.laws.specs.Integers.{floorDiv, clampZ}
 use Rattle.laws.proofs.Abs.{natAbs-+, natAbs--, within-fits, sum-fits, difference-fits}
-use Rattle.laws.proofs.Difference.{sub-of-le}
+use Rattle.laws.proofs.Difference.{sub-of-le, sub-of-lt}
 use Rattle.laws.proofs.Floor.{natAbs-floor}
 use Rattle.sbc_filterbank.specs.Synthesis.{roundingBits, rounded}
 use Rattle.sbc_synthesize.specs.Fold.{outputBound}
@@ -41,9 +41,6 @@ module _ (z : ℤ) (m : ℕ) (l : outputBound ≤ 22000000 * m) (p : 0 < m) (h :
   pub half-fits : SFits w64 (floorDiv (floorDiv (pos 0 -ℤ z) m +ℤ pos 1) 2)
   half-fits = within-fits w64 (floorDiv (floorDiv (pos 0 -ℤ z) m +ℤ pos 1) 2) half-small (lit< tt)
 
-sub-lt : (a b : ℕ) → a < b → subℕ a b ≡ negsuc (b - suc a)
-sub-lt a b h = rw (lt-ltb a b h)
-
 -- half of 1 more than x ÷ m is x + m over 2 m, rounded down; n is 2 m
 module _ (m n : ℕ) (up : (a : ℕ) → (a / m + 1) / 2 ≡ (a + m) / n) (first : (a : ℕ) → a < m → (a / m ≡ 0) × ((m - suc a) / n ≡ 0))
     (past : (a : ℕ) → m ≤ a → (1 < suc (a / m)) × ((suc (a / m) - 2) / 2 ≡ (suc a - suc m) / n)) where
@@ -58,8 +55,8 @@ module _ (m n : ℕ) (up : (a : ℕ) → (a / m + 1) / 2 ≡ (a + m) / n) (first
           ∙ ap (λ (z : ℤ). floorDiv z n) (sym (sub-of-le m (suc a) h))
       go false e =
           let h = ltb-false a m e in
-          ap (λ (z : ℤ). floorDiv z 2) (sub-lt 1 (suc (a / m)) (past a h .0)) ∙ ap negsuc (past a h .1)
-          ∙ ap (λ (z : ℤ). floorDiv z n) (sym (sub-lt m (suc a) (omega arith)))
+          ap (λ (z : ℤ). floorDiv z 2) (sub-of-lt 1 (suc (a / m)) (past a h .0)) ∙ ap negsuc (past a h .1)
+          ∙ ap (λ (z : ℤ). floorDiv z n) (sym (sub-of-lt m (suc a) (omega arith)))
 
   half-less : (z : ℤ) → floorDiv (floorDiv (pos 0 -ℤ z) m +ℤ pos 1) 2 ≡ floorDiv (pos m -ℤ z) n
   half-less z =

@@ -51,6 +51,7 @@ prototype8 =
     minus 6076836 ∷ minus 3755063 ∷ minus 1771385 ∷ minus 191991 ∷ pos 968681 ∷ pos 1735771 ∷ pos 2141627 ∷ pos 2258852 ∷
     pos 2160181 ∷ pos 1915252 ∷ pos 1585274 ∷ pos 1223985 ∷ pos 884677 ∷ pos 595519 ∷ pos 368569 ∷ pos 168122 ∷ []
 
+-- for 4 subbands, and for 8
 unfoldable pub prototype : ℕ → List ℤ
 prototype S = if eqb S 4 then prototype4 else prototype8
 

@@ -12,7 +12,7 @@ use mir.Syntax.{w16}
 use mir.Facts.{toZ-ofZ}
 use borrow.Author.Needs.{needs}
 use Rattle.laws.specs.Lists.{collect, build}
-use Rattle.pcm.specs.Samples.{sampleOf}
+use Rattle.pcm.specs.Samples.{sampleOf, samplesIn}
 use Rattle.pcm.proofs.read.Statement.{statement}
 use Rattle.pcm.proofs.read.Tie as tie
 
@@ -81,6 +81,7 @@ same-length : tie.Need-same-length Inv-loop μ-loop
 same-length c = search needs
 
 returns : tie.Need-returns Inv-loop μ-loop
+unfolding samplesIn
 returns c =
     let l = c .before .loop in
     let start = c .before .before .before in

@@ -7,8 +7,8 @@ use native.Mathlib.Nat.{not-suc-le-zero, mul-le-mul-right}
 use native.Mathlib.Omega.{arith}
 use lib.ListN.{length}
 use Rattle.laws.proofs.Arrays.{length-overwrite}
-use Rattle.sbc_frame.specs.Channels.{analyzeBlocks, analysisAfter}
-use Rattle.sbc_encode_frame.specs.Parts.{pcmIn, SamplesIn}
+use Rattle.sbc_frame.specs.Channels.{pcmIn, analyzeBlocks, analysisAfter}
+use Rattle.sbc_encode_frame.specs.Parts.{SamplesIn}
 use Rattle.sbc_encode_frame.proofs.Analyzed.{analysis-none, analysis-next, samples-next}
 use Rattle.sbc_encode_frame.proofs.analyzing.analyze_channel.Statement.{statement}
 use Rattle.sbc_encode_frame.proofs.analyzing.analyze_channel.Tie as tie

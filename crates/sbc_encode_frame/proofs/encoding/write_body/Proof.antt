@@ -13,8 +13,9 @@ use Rattle.sbc_parameters.specs.Sizes.{joinCount, frameLength}
 use Rattle.sbc_parameters.proofs.Accepted.{ranges}
 use Rattle.sbc_allocation.specs.Allocate.{allocationTable}
 use Rattle.sbc_allocation.proofs.Rows.{table-16}
+use Rattle.sbc_frame.specs.Layout.{filled}
 use Rattle.sbc_frame.specs.Arrays.{entry}
-use Rattle.sbc_encode_frame.specs.Parts.{bitsIn, rowBits, valueBitsOf, codingBits, filled}
+use Rattle.sbc_encode_frame.specs.Parts.{bitsIn, rowBits, valueBitsOf, codingBits}
 use Rattle.sbc_frame.proofs.Positions.{bodyWidth, body-room}
 use Rattle.sbc_frame.proofs.Sizes.{row-sizes}
 use Rattle.sbc_encode_frame.proofs.Headed.{no-bits}

@@ -5,7 +5,8 @@ use mathlib.Core.Path.{_≡_, subst}
 use native.Mathlib.Omega.{arith}
 use lib.ListN.{length}
 use lib.Pow.{pow-mono}
-use Rattle.sbc_encode_frame.specs.Parts.{bitsIn, filled}
+use Rattle.sbc_frame.specs.Layout.{filled}
+use Rattle.sbc_encode_frame.specs.Parts.{bitsIn}
 use Rattle.sbc_encode_frame.proofs.Flushing.{finished-whole, finished-zeros}
 use borrow.Author.Needs.{needs}
 use Rattle.sbc_encode_frame.proofs.writing.finish.Statement.{statement}

@@ -5,7 +5,8 @@ use mathlib.Core.Path.{_≡_, ap, _∙_}
 use native.Mathlib.Omega.{arith}
 use lib.ListN.{length}
 use borrow.Author.Needs.{needs}
-use Rattle.sbc_figures.specs.Distance.{differing, farthest, samplesIn}
+use Rattle.pcm.specs.Samples.{samplesIn}
+use Rattle.sbc_figures.specs.Distance.{differing, farthest}
 use Rattle.sbc_figures.proofs.streams.measure.Statement.{statement}
 use Rattle.sbc_figures.proofs.streams.measure.Tie as tie
 
@@ -22,7 +23,6 @@ same-length : tie.Need-same-length
 same-length c = search needs
 
 returns : tie.Need-returns
-unfolding samplesIn
 returns c =
     let called = c .before .before .before .before .before in
     let s = called .before .before .before .args in
