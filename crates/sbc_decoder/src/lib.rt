@@ -15,9 +15,10 @@ use sbc_parameters::SbcParameters;
 use sbc_parameters::Validated;
 ghost use mathlib.Core.Path.{_≡_};
 ghost use mathlib.Core.Bool.{true};
-ghost use mathlib.Core.List.{_++_};
+ghost use mathlib.Core.List.{List, _++_};
 ghost use Prim.Native.Nat.{_-_, _*_, _≤_};
 ghost use lib.Dec.{eqb};
+ghost use lib.IntN.{ℤ};
 ghost use lib.ListN.{length, take, drop};
 ghost use Rattle.sbc_parameters.specs.Errors.{errorNumber};
 ghost use Rattle.sbc_parameters.specs.Parameters.{accepted};
@@ -25,7 +26,7 @@ ghost use Rattle.sbc_parameters.specs.Seek.{seekFrame};
 ghost use Rattle.sbc_parameters.specs.Sizes.{frameLength, frameSamples};
 ghost use Rattle.sbc_frame.specs.Layout.{unpack};
 ghost use Rattle.sbc_look.specs.Look.{whole, look};
-ghost use Rattle.sbc_decoder.specs.Decode.{cleared, play, newDecoder, finish, startHistories, refused, shortStep, turnAt, decodeNext, answerOf, decode};
+ghost use Rattle.sbc_decoder.specs.Decode.{cleared, play, newDecoder, finish, startHistories, refused, unchanged, shortStep, turnAt, decodeNext, answerOf, decode};
 ghost use Rattle.codec.specs.Answers.{toldCoded, progressOf};
 ghost use Rattle.sbc_decoder.specs.Told.{toldOutcome, toldTurn, toldDecoded};
 ghost use Rattle.sbc_decoder.specs.Seek.{toldSought, reset, resumed, seekFirst, seekFrom, seek};
@@ -178,10 +179,7 @@ impl SbcDecoder {
                 outcome: self.short_outcome(input),
                 decoder: self,
             },
-            Front::Bad(error) => TurnResult {
-                outcome: Outcome::Refused(error),
-                decoder: self,
-            },
+            Front::Bad(error) => turned_away(self, error),
             Front::Whole(frame) => self.decode_whole(frame, input, output),
         }
     }
@@ -206,18 +204,12 @@ impl SbcDecoder {
     {
         let parameters = frame.parameters;
         if output.len() < parameters.frame_samples() {
-            return TurnResult {
-                outcome: Outcome::Refused(Error::BufferTooSmall),
-                decoder: self,
-            };
+            return turned_away(self, Error::BufferTooSmall);
         }
         if frame.good {
             return self.play(parameters, &input[..parameters.frame_length()], output);
         }
-        TurnResult {
-            outcome: Outcome::Refused(Error::InvalidData),
-            decoder: self,
-        }
+        turned_away(self, Error::InvalidData)
     }
 
     // Plays a frame. Samples that are still to be dropped are decoded, since later ones depend on them, and then left out.
@@ -327,14 +319,16 @@ impl SbcDecoder {
         }
     }
 
-    // Both histories cleared, finishing off, and the skip pending.
+    // Both histories as created, finishing off, and the skip pending.
     fn resumed(self, skip: usize) -> SbcDecoder
         ensures { λ r. ⌜ r ≡ resumed skip self ⌝ }
     {
+        let created = SbcDecoder::new();
         let parameters = self.parameters;
+        let synthesis = created.synthesis;
         SbcDecoder {
             parameters,
-            synthesis: no_histories(),
+            synthesis,
             finishing: false,
             skip,
         }
@@ -358,6 +352,14 @@ fn same_subbands(before: SbcParameters, parameters: SbcParameters) -> bool
     ensures { λ r. ⌜ r ≡ eqb (before .subbands) (parameters .subbands) ⌝ }
 {
     before.subbands == parameters.subbands
+}
+
+// A refused turn: all stays as it was.
+fn turned_away(decoder: SbcDecoder, error: Error) -> TurnResult
+    ensures { λ r. ⌜ ((output : List ℤ) → toldTurn r output ≡ unchanged (refused (errorNumber error)) decoder output) ⌝ }
+{
+    let outcome = Outcome::Refused(error);
+    TurnResult { outcome, decoder }
 }
 
 // What a refused frame makes the call give back: the frames accepted before it count.

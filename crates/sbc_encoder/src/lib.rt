@@ -102,11 +102,10 @@ impl SbcEncoder {
         let mut left = first.history;
         let mut right = second.history;
         encode_frames(parameters, &mut left, &mut right, input, output, count);
+        let consumed = count * samples;
+        let produced = count * length;
         EncodeResult {
-            answer: Coded::Done(Progress {
-                consumed: count * samples,
-                produced: count * length,
-            }),
+            answer: Coded::Done(Progress { consumed, produced }),
             encoder: SbcEncoder {
                 parameters,
                 analysis: [Analysis { history: left }, Analysis { history: right }],

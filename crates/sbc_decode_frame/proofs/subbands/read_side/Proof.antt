@@ -1,7 +1,7 @@
 -- `sbc_decode_frame::subbands::read_side` meets its contract.
 -- Assumes nothing.
 use Prim.Native.Nat.{ℕ, _+_, _*_, _-_}
-use mathlib.Core.Path.{ap, ap₂, _∙_}
+use mathlib.Core.Path.{_≡_, ap, ap₂, _∙_}
 use native.Mathlib.Omega.{arith}
 use Rattle.sbc_parameters.specs.Parameters.{channels}
 use Rattle.sbc_decode_frame.specs.Parts.{rowAt}
@@ -78,8 +78,10 @@ returns c =
     let p = c .before .before .before .before .before .before .args .parameters in
     let bytes = c .before .before .before .before .before .before .args .bytes .now in
     let j = c .before .before .before .before .before .join-count .ensures .0 in
-    let e = ap (λ (n : ℕ). p .subbands * (n - 1)) (c .before .before .before .channels .ensures) in (
-      c .before .before .read-row .ensures ∙ ap (rowAt bytes 32 1) j,
+    let e = ap (λ (n : ℕ). p .subbands * (n - 1)) (c .before .before .before .channels .ensures) in
+    let joins = c .before .before .before .before .before .join-count .result in
+    let flags : c .before .before .read-row .result ≡ rowAt bytes 32 1 joins = c .before .before .read-row .ensures in (
+      flags ∙ ap (rowAt bytes 32 1) j,
       (
         c .before .read-row2 .ensures ∙ ap (λ (n : ℕ). rowAt bytes (32 + n) 4 (p .subbands)) j,
         c .read-row3 .ensures ∙ ap₂ (λ (n k : ℕ). rowAt bytes (32 + n + 4 * p .subbands) 4 k) j e,

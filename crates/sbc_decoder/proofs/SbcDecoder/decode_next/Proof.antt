@@ -12,7 +12,7 @@ use Rattle.sbc_parameters.specs.Sizes.{frameLength}
 use Rattle.sbc_parameters.specs.declared.SbcParameters.{SbcParameters}
 use Rattle.sbc_look.specs.Look.{Look, cut, bad, whole, look, toldFront}
 use Rattle.sbc_decoder.specs.Decode.{unchanged, turnAt, decodeNext}
-use Rattle.sbc_decoder.specs.Told.{toldOutcome, toldTurn}
+use Rattle.sbc_decoder.specs.Told.{toldTurn}
 use Rattle.sbc_decoder.proofs.Taking.{look-cases}
 use borrow.Author.Needs.{needs}
 use Rattle.sbc_decoder.proofs.SbcDecoder.decode_next.Statement.{statement}
@@ -40,6 +40,9 @@ short-outcome-requires c κs = search needs
 
 enum-known-front : tie.Need-enum-known-front
 enum-known-front c = search needs
+
+turned-away-requires : tie.Need-turned-away-requires
+turned-away-requires c κs = search needs
 
 enum-known-front-2 : tie.Need-enum-known-front-2
 enum-known-front-2 c = search needs
@@ -80,10 +83,12 @@ returns c =
     (ap (λ s. unchanged s (start l .args .self) (start l .args .output .now)) (c .short-outcome .ensures))
 
 returns-2 : tie.Need-returns-2
-unfolding toldFront toldOutcome toldTurn unchanged turnAt decodeNext
+unfolding toldFront turnAt decodeNext
 returns-2 c =
-    let l = c .before .before .before in
-    rw (seen l (bad (errorNumber (c .before .front .given .0 .0))) (ap toldFront (c .before .front .given .1)))
+    let f = c .before .before in
+    let l = f .before .before in
+    rw (seen l (bad (errorNumber (f .front .given .0 .0))) (ap toldFront (f .front .given .1)))
+    (c .turned-away .ensures (start l .args .output .now))
 
 same-length : tie.Need-same-length
 same-length c = search needs
@@ -102,6 +107,7 @@ decode-next-spec =
     enum-told
     short-outcome-requires
     enum-known-front
+    turned-away-requires
     enum-known-front-2
     decode-whole-requires
     returns

@@ -9,8 +9,7 @@ use lib.Seq.{length-take-le}
 use borrow.Author.Tests.{lt-ltb, le-ltb}
 use Rattle.sbc_parameters.specs.Sizes.{frameSamples}
 use Rattle.sbc_parameters.specs.declared.SbcParameters.{SbcParameters}
-use Rattle.sbc_decoder.specs.Decode.{play, unchanged, turnAt}
-use Rattle.sbc_decoder.specs.Told.{toldOutcome, toldTurn}
+use Rattle.sbc_decoder.specs.Decode.{play, turnAt}
 use borrow.Author.Needs.{needs}
 use Rattle.sbc_decoder.proofs.SbcDecoder.decode_whole.Statement.{statement}
 use Rattle.sbc_decoder.proofs.SbcDecoder.decode_whole.Tie as tie
@@ -18,12 +17,16 @@ use Rattle.sbc_decoder.proofs.SbcDecoder.decode_whole.Tie as tie
 frame-samples-requires : tie.Need-frame-samples-requires
 frame-samples-requires c κs = search needs
 
+turned-away-requires : tie.Need-turned-away-requires
+turned-away-requires c κs = search needs
+
 returns : tie.Need-returns
-unfolding toldOutcome toldTurn unchanged turnAt
+unfolding turnAt
 returns c =
-    let s = c .before .before .before .before in
+    let s = c .before .before .before .before .before in
     rw (lt-ltb (length (s .args .output .now)) (frameSamples (s .args .frame .parameters))
-    (omega (arith, c .if1 .taken, c .before .frame-samples .ensures)))
+    (omega (arith, c .before .if1 .taken, c .before .before .frame-samples .ensures)))
+    (c .turned-away .ensures (s .args .output .now))
 
 frame-length-requires : tie.Need-frame-length-requires
 frame-length-requires c κs = search needs
@@ -63,25 +66,31 @@ returns-2 c =
     rw (le-ltb (length (start l .args .output .now)) (frameSamples (p l)) (room l), l .before .if2 .taken, ← l .frame-length .ensures)
     (c .before .play .ensures)
 
+turned-away-requires-2 : tie.Need-turned-away-requires-2
+turned-away-requires-2 c κs = search needs
+
 returns-3 : tie.Need-returns-3
-unfolding toldOutcome toldTurn unchanged turnAt
+unfolding turnAt
 returns-3 c =
-    let s = c .before .before .before .before .before in
+    let s = c .before .before .before .before .before .before in
     rw (
       le-ltb (length (s .args .output .now)) (frameSamples (s .args .frame .parameters))
-          (omega (arith, c .before .if1 .left, c .before .before .frame-samples .ensures)),
-      c .if2 .left,
+          (omega (arith, c .before .before .if1 .left, c .before .before .before .frame-samples .ensures)),
+      c .before .if2 .left,
     )
+    (c .turned-away2 .ensures (s .args .output .now))
 
 pub decode-whole-spec : {M : Type 1} → statement M
 decode-whole-spec =
     tie.close
     (tie.spec
     frame-samples-requires
+    turned-away-requires
     returns
     frame-length-requires
     slice-aggregate-play
     play-requires
     same-length
     returns-2
+    turned-away-requires-2
     returns-3)

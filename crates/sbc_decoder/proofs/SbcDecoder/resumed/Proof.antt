@@ -1,17 +1,22 @@
--- `SbcDecoder::resumed` meets its contract.
+-- `SbcDecoder::resumed` meets its contract: the histories are those of a new decoder.
 -- Assumes nothing.
-use Rattle.sbc_decoder.specs.Decode.{withSynthesis, withFinishing, withSkip}
+use mathlib.Core.Path.{ap}
+use mathlib.Core.Bool.{false}
+use Rattle.sbc_decoder.specs.Decode.{newDecoder, withSynthesis, withFinishing, withSkip}
 use Rattle.sbc_decoder.specs.Seek.{resumed}
+use Rattle.sbc_decoder.specs.declared.SbcDecoder.{SbcDecoder}
 use borrow.Author.Needs.{needs}
 use Rattle.sbc_decoder.proofs.SbcDecoder.resumed.Statement.{statement}
 use Rattle.sbc_decoder.proofs.SbcDecoder.resumed.Tie as tie
 
-no-histories-requires : tie.Need-no-histories-requires
-no-histories-requires c κs = search needs
+new-requires : tie.Need-new-requires
+new-requires c κs = search needs
 
 returns : tie.Need-returns
-unfolding resumed withSynthesis withFinishing withSkip
-returns c = rw (c .no-histories .ensures)
+unfolding newDecoder resumed withSynthesis withFinishing withSkip
+returns c =
+    let a = c .before .before .args in
+    ap (λ (created : SbcDecoder). withSynthesis (created .synthesis) (withFinishing false (withSkip (a .skip) (a .self)))) (c .before .new .ensures)
 
 pub resumed-spec : {M : Type 1} → statement M
-resumed-spec = tie.close (tie.spec no-histories-requires returns)
+resumed-spec = tie.close (tie.spec new-requires returns)

@@ -107,13 +107,13 @@ encode-frames-requires c κs =
     let l = c .before .before .before .before .before .before .before in
     (start l .pre, reads l, fills l)
 
-mul-t13 : tie.Need-mul-t13
-mul-t13 c =
+mul-consumed : tie.Need-mul-consumed
+mul-consumed c =
     let l = c .before .before .before .before .before .before .before .before .before .before in
     omega (arith, reads l, ap (λ n. l .least .result * n) (samples-is l))
 
-mul-t18 : tie.Need-mul-t18
-mul-t18 c =
+mul-produced : tie.Need-mul-produced
+mul-produced c =
     let l = c .before .before .before .before .before .before .before .before .before .before in
     omega (arith, fills l, ap (λ n. l .least .result * n) (length-is l))
 
@@ -179,7 +179,7 @@ encode-accepted-spec =
     element-copy-out-first
     element-copy-out-second
     encode-frames-requires
-    mul-t13
-    mul-t18
+    mul-consumed
+    mul-produced
     same-length
     returns-2)
