@@ -91,7 +91,11 @@ module _ (c : tie.After-least) where
 
   count-is : c .least .result ≡ frames e input output
   unfolding wholeFrames
-  count-is = c .least .ensures ∙ ap₂ (λ s l. min (length input / s) (length output / l)) samples-is length-is
+  count-is =
+      let held-by : ℕ → ℕ → ℕ = λ samples bytes. min (length input / samples) (length output / bytes) in
+      let both : c .least .result ≡ held-by (c .before .before .before .frame-samples .result) (c .before .before .frame-length .result) =
+      c .least .ensures in
+      both ∙ ap₂ held-by samples-is length-is
 
   -- they fit into both
   reads : c .least .result * frameSamples (e .parameters) ≤ length input
