@@ -1,9 +1,9 @@
 -- A decoder as numbers and back, the calls on a decoder's state, and that a refused call leaves the state and the output.
 -- Assumes nothing.
 use Prim.Native.Nat.{ℕ, zero, suc, _+_, _<_}
-use mathlib.Core.Path.{_≡_, refl, sym, ap, ap₂, _∙_}
+use mathlib.Core.Path.{_≡_, refl, sym, ap, _∙_}
 use mathlib.Core.Bool.{Bool, true, false, true≢false}
-use mathlib.Core.List.{List, [], _∷_}
+use mathlib.Core.List.{List}
 use native.Mathlib.Omega.{arith}
 use lib.Dec.{eqb, ltb}
 use lib.IntN.{ℤ, pos}
@@ -15,7 +15,6 @@ use Rattle.laws.specs.Lists.{collect, build}
 use Rattle.laws.proofs.Cases.{by-test}
 use Rattle.laws.proofs.Lists.{build-is}
 use Rattle.laws.proofs.Tests.{and-left, and-right}
-use Rattle.sbc_filterbank.specs.declared.synthesis.Synthesis.{Synthesis}
 use Rattle.sbc_frame.specs.Channels.{noSynthesis}
 use Rattle.codec.specs.declared.Progress.{Progress}
 use Rattle.sbc_decoder.specs.Decode.{cleared, newDecoder, decode}
@@ -24,7 +23,7 @@ use Rattle.sbc_decoder.specs.declared.LastParameters.{LastParameters}
 use Rattle.sbc_decoder.specs.declared.LastParameters.the-variants.{None, Some}
 use Rattle.sbc_decoder.specs.declared.SbcDecoder.{SbcDecoder}
 use Rattle.sbc.proofs.Refusals.{decode-refused}
-use Rattle.sbc_abi.specs.Numbers.{isSet, noNumbers, codedNumbers}
+use Rattle.sbc_abi.specs.Numbers.{noNumbers, codedNumbers}
 use Rattle.sbc_abi.specs.Decoder.{isBlank, isHeld, isDecoder, lastIn, synthesisOf, decoderIn, heldNumber, heldNumbers, absent, stateOf, DecodeAfter, afterDecode, decodeState, afterSeek, seekState}
 use Rattle.sbc_abi.specs.declared.ParameterNumbers.{ParameterNumbers}
 use Rattle.sbc_abi.specs.declared.DecoderState.{DecoderState}
