@@ -1,9 +1,9 @@
 -- A decoder as numbers and back, the calls on a decoder's state, and that a refused call leaves the state and the output.
 -- Assumes nothing.
 use Prim.Native.Nat.{ℕ, zero, suc, _+_, _<_}
-use mathlib.Core.Path.{_≡_, refl, sym, ap, ap₂, _∙_}
+use mathlib.Core.Path.{_≡_, refl, sym, ap, _∙_}
 use mathlib.Core.Bool.{Bool, true, false, true≢false}
-use mathlib.Core.List.{List, [], _∷_}
+use mathlib.Core.List.{List}
 use native.Mathlib.Omega.{arith}
 use lib.Dec.{eqb, ltb}
 use lib.IntN.{ℤ, pos}
@@ -13,18 +13,19 @@ use Rattle.laws.specs.Choice.{if_then_else_}
 use Rattle.laws.specs.Answers.{Told, gives, refuses}
 use Rattle.laws.specs.Lists.{collect, build}
 use Rattle.laws.proofs.Cases.{by-test}
-use Rattle.laws.proofs.Lists.{build-is}
+use Rattle.laws.proofs.Lists.{length-build, build-is}
 use Rattle.laws.proofs.Tests.{and-left, and-right}
-use Rattle.sbc_filterbank.specs.declared.synthesis.Synthesis.{Synthesis}
 use Rattle.sbc_frame.specs.Channels.{noSynthesis}
 use Rattle.codec.specs.declared.Progress.{Progress}
-use Rattle.sbc_decoder.specs.Decode.{cleared, newDecoder, decode}
+use Rattle.sbc_decoder.specs.Decode.{cleared, newDecoder, withParameters, withSynthesis, nextDecoder, play, decodeAll, decode}
 use Rattle.sbc_decoder.specs.Seek.{seek}
 use Rattle.sbc_decoder.specs.declared.LastParameters.{LastParameters}
 use Rattle.sbc_decoder.specs.declared.LastParameters.the-variants.{None, Some}
 use Rattle.sbc_decoder.specs.declared.SbcDecoder.{SbcDecoder}
+use Rattle.sbc_frame.specs.Decoding.{synthesisHistories}
+use Rattle.sbc_decoder.proofs.Taking.{decode-induction}
 use Rattle.sbc.proofs.Refusals.{decode-refused}
-use Rattle.sbc_abi.specs.Numbers.{isSet, noNumbers, codedNumbers}
+use Rattle.sbc_abi.specs.Numbers.{noNumbers, codedNumbers}
 use Rattle.sbc_abi.specs.Decoder.{isBlank, isHeld, isDecoder, lastIn, synthesisOf, decoderIn, heldNumber, heldNumbers, absent, stateOf, DecodeAfter, afterDecode, decodeState, afterSeek, seekState}
 use Rattle.sbc_abi.specs.declared.ParameterNumbers.{ParameterNumbers}
 use Rattle.sbc_abi.specs.declared.DecoderState.{DecoderState}
@@ -141,6 +142,20 @@ decode-of d input output two = rw (state-stands d) (ap (λ x. afterDecode (decod
 pub seek-of : (d : SbcDecoder) (position : ℕ) → length (d .synthesis) ≡ 2 → seekState (stateOf d) position ≡ afterSeek (seek d position)
 unfolding seekState
 seek-of d position two = rw (state-stands d) (ap (λ x. afterSeek (seek x position)) (decoder-back d two))
+
+-- a decode call leaves two histories
+two-after : (d : SbcDecoder) (input : List ℕ) (output : List ℤ) → length (d .synthesis) ≡ 2 → length (decodeAll d input output .decoder .synthesis) ≡ 2
+unfolding withParameters withSynthesis nextDecoder play synthesisHistories
+two-after =
+    decode-induction (λ d input output r. length (d .synthesis) ≡ 2 → length (r .decoder .synthesis) ≡ 2) (λ d input output s e two. two)
+    (λ d input output p a fits room rest two. rest (length-build 2 _))
+
+-- the next call on the state that a call left is the next call on the decoder that it left
+pub decode-again : (s : DecoderState) (input next : List ℕ) (output room : List ℤ) → isDecoder s ≡ true
+    → decodeState (decodeState s input output .state) next room ≡ afterDecode (decode (decode (decoderIn s) input output .decoder) next room)
+unfolding decoderIn decode afterDecode decodeState
+decode-again s input next output room is =
+    rw is (decode-of (decode (decoderIn s) input output .decoder) next room (two-after (decoderIn s) input output refl))
 
 -- ---- a refusal leaves the state and the output
 

@@ -1,7 +1,7 @@
 -- An encoder as numbers and back, the calls on an encoder's state, and that a refused call leaves the state and the output.
 -- Assumes nothing.
 use Prim.Native.Nat.{ℕ, suc}
-use mathlib.Core.Path.{_≡_, refl, sym, ap, ap₂, _∙_}
+use mathlib.Core.Path.{_≡_, refl, sym, ap, _∙_}
 use mathlib.Core.Bool.{true}
 use mathlib.Core.List.{List}
 use native.Mathlib.Omega.{arith}
@@ -15,7 +15,7 @@ use Rattle.codec.specs.declared.Progress.{Progress}
 use Rattle.sbc_encoder.specs.Encode.{encode}
 use Rattle.sbc_encoder.specs.declared.SbcEncoder.{SbcEncoder}
 use Rattle.sbc.proofs.Refusals.{encode-refused}
-use Rattle.sbc_abi.specs.Numbers.{isSet, numbersOf, codedNumbers}
+use Rattle.sbc_abi.specs.Numbers.{isSet, codedNumbers}
 use Rattle.sbc_abi.specs.Encoder.{encoderIn, absent, stateOf, EncodeAfter, afterEncode, encodeState}
 use Rattle.sbc_abi.specs.declared.EncoderState.{EncoderState}
 use Rattle.sbc_abi.proofs.Numbers.{parameters-back, numbers-back, numbers-set}

@@ -1,7 +1,7 @@
 -- A decoder as numbers, and its calls on them: what the state stands for goes through the call of sbc_decoder, and the result is numbers again. A state that
 -- stands for no decoder is refused with InvalidParameter, and stays.
 use Prim.Native.Nat.{ℕ, _+_}
-use mathlib.Core.Bool.{Bool, true, false, _&&_}
+use mathlib.Core.Bool.{Bool, _&&_}
 use mathlib.Core.List.{List, [], _∷_}
 use lib.Dec.{eqb, ltb}
 use lib.IntN.{ℤ}

@@ -1,6 +1,6 @@
 -- An encoder as numbers, and its calls on them, as those of a decoder. A state stands for an encoder where its parameters are a set.
 use Prim.Native.Nat.{ℕ}
-use mathlib.Core.List.{List, [], _∷_}
+use mathlib.Core.List.{List, []}
 use lib.IntN.{ℤ}
 use lib.ListN.{getD}
 use Rattle.laws.specs.Choice.{if_then_else_}

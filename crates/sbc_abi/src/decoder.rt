@@ -1,4 +1,5 @@
-// The decoder's calls on a state of numbers: by value, and below on one that is lent. A lent one copies the state out, calls the one by value and stores what that gave back.
+// The decoder's calls on a state of numbers: by value, and below on a state that is lent. A lent one is thin: the state is copied out, the call by
+// value does the work, and the state that it gave back is stored.
 use crate::CodedNumbers;
 use crate::DecoderState;
 use crate::NO_PARAMETERS;

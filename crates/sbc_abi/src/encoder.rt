@@ -1,4 +1,5 @@
-// The encoder's calls on a state of numbers: by value, and below on one that is lent. A lent one copies the state out, calls the one by value and stores what that gave back.
+// The encoder's calls on a state of numbers: by value, and below on a state that is lent. A lent one is thin: the state is copied out, the call by
+// value does the work, and the state that it gave back is stored.
 use crate::CodedNumbers;
 use crate::EncoderState;
 use crate::ParameterNumbers;
@@ -10,7 +11,7 @@ use crate::parameters_in;
 use sbc_encoder::Analysis;
 use sbc_encoder::SbcEncoder;
 ghost use mathlib.Core.Path.{_≡_};
-ghost use Rattle.sbc_encoder.specs.Encode.{encoderOf, encode};
+ghost use Rattle.sbc_encoder.specs.Encode.{encode};
 ghost use Rattle.sbc_abi.specs.Encoder.{encoderIn, stateOf, toldEncode, afterEncode, encodeState, createState, resetState};
 
 // What an encode call gives back, and the state after it.

@@ -1,13 +1,15 @@
-// The codec for C and Rust, as a static library (`rt staticlib sbc_abi`): the calls of the decoder, of the encoder and on parameters, on numbers, slices and
-// structs of numbers. include/sbc.h declares them for C.
+// The codec for C and Rust, as a static library (`rt staticlib sbc_abi`): the calls of the decoder, of the encoder and on parameters, on numbers,
+// slices and structs of numbers. include/sbc.h declares them for C.
 //
-// No enum may cross to C, so a state is a struct of the numbers that stand for it (specs/Decoder, specs/Encoder). The caller owns it and lends it by pointer. Each
-// contract is one equation, with the definitions of the calls by value, and none has a `requires`: numbers that stand for nothing get refusal 3.
+// No enum may cross to C, so a state is a struct of the numbers that stand for it (specs/Decoder, specs/Encoder). The caller owns it and lends it by
+// pointer. Each contract is one equation, with the definitions of the calls by value, and none has a `requires`: numbers that stand for nothing
+// get refusal 3.
 //
-// What this boundary assumes of a caller, and nothing checks: x86-64 and System V's C calling convention, a slice passed as a pointer and then its length in
-// elements; each pointer is not null, is aligned as its type is and points to as many elements as the length says (one to no elements too is not
-// null and aligned), under 2^63 bytes; what is lent to be written overlaps nothing else that the call is lent; during the call no other thread and no signal
-// handler writes what is lent, or reads what is lent to be written; what is read is initialised. Padding in a struct has no meaning and is not kept.
+// What this boundary assumes of a caller, and nothing checks: x86-64 and System V's C calling convention, a slice passed as a pointer and then its
+// length in elements; each pointer is not null, is aligned as its type is and points to as many elements as the length says (one to no
+// elements too is not null and aligned), under 2^63 bytes; what is lent to be written overlaps nothing else that the call is lent; during the call
+// no other thread and no signal handler writes what is lent, or reads what is lent to be written; what is read is initialised. Padding
+// in a struct has no meaning and is not kept.
 mod decoder;
 mod encoder;
 
@@ -17,8 +19,7 @@ use sbc_parameters::SbcChannelMode;
 use sbc_parameters::SbcParameters;
 use sbc_parameters::Validated;
 ghost use mathlib.Core.Path.{_≡_};
-ghost use Prim.Native.Nat.{ℕ};
-ghost use Rattle.sbc_parameters.specs.Header.{toldParsed, parse};
+ghost use Rattle.sbc_parameters.specs.Header.{parse};
 ghost use Rattle.sbc_abi.specs.Numbers.{isSet, parametersIn, numbersOf, isAccepted, parsedNumbers, sizeIn};
 ghost use Rattle.sbc_parameters.specs.Sizes.{frameLength, frameSamples};
 

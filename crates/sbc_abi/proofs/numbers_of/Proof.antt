@@ -1,6 +1,5 @@
 -- `numbers_of` meets its contract.
 -- Assumes nothing.
-use mathlib.Core.Path.{_≡_}
 use Rattle.sbc_abi.specs.Numbers.{numbersOf}
 use borrow.Author.Needs.{needs}
 use Rattle.sbc_abi.proofs.numbers_of.Statement.{statement}

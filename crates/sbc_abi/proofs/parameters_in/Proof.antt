@@ -1,6 +1,5 @@
 -- `parameters_in` meets its contract.
 -- Assumes nothing.
-use mathlib.Core.Path.{_≡_}
 use Rattle.sbc_abi.specs.Numbers.{parametersIn}
 use borrow.Author.Needs.{needs}
 use Rattle.sbc_abi.proofs.parameters_in.Statement.{statement}

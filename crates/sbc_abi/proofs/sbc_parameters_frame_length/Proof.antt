@@ -2,7 +2,7 @@
 -- Assumes nothing.
 use mathlib.Core.Path.{refl, sym, ap, _∙_}
 use Rattle.sbc_parameters.specs.Sizes.{frameLength}
-use Rattle.sbc_abi.specs.Numbers.{isAccepted, sizeIn}
+use Rattle.sbc_abi.specs.Numbers.{sizeIn}
 use borrow.Author.Needs.{needs}
 use Rattle.sbc_abi.proofs.sbc_parameters_frame_length.Statement.{statement}
 use Rattle.sbc_abi.proofs.sbc_parameters_frame_length.Tie as tie

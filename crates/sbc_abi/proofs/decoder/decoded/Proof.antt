@@ -1,6 +1,6 @@
 -- `decoded` meets its contract.
 -- Assumes nothing.
-use mathlib.Core.Path.{_≡_, refl, sym, ap, _∙_}
+use mathlib.Core.Path.{refl, sym, ap, _∙_}
 use Rattle.sbc_decoder.specs.Decode.{decode}
 use Rattle.sbc_abi.specs.Numbers.{codedNumbers}
 use Rattle.sbc_abi.specs.Decoder.{toldDecode, afterDecode, decodeState}

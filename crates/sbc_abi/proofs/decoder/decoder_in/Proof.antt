@@ -2,9 +2,6 @@
 -- Assumes nothing.
 use mathlib.Core.Path.{ap}
 use Rattle.sbc_abi.specs.Decoder.{synthesisOf, decoderIn}
-use Rattle.sbc_abi.specs.declared.DecoderState.{DecoderState}
-use Rattle.sbc_decoder.specs.declared.LastParameters.{LastParameters}
-use Rattle.sbc_decoder.specs.declared.SbcDecoder.{SbcDecoder}
 use borrow.Author.Needs.{needs}
 use Rattle.sbc_abi.proofs.decoder.decoder_in.Statement.{statement}
 use Rattle.sbc_abi.proofs.decoder.decoder_in.Tie as tie

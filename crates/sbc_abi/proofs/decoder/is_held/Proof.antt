@@ -1,6 +1,6 @@
 -- `is_held` meets its contract.
 -- Assumes nothing.
-use mathlib.Core.Path.{refl, _∙_}
+use mathlib.Core.Path.{refl}
 use borrow.Author.Tests.{eq-eqb, ne-eqb}
 use Rattle.sbc_abi.specs.Decoder.{isHeld}
 use borrow.Author.Needs.{needs}

@@ -1,6 +1,6 @@
 -- `sought` meets its contract.
 -- Assumes nothing.
-use mathlib.Core.Path.{_≡_, refl, sym, ap, _∙_}
+use mathlib.Core.Path.{refl, sym, ap, _∙_}
 use Rattle.sbc_decoder.specs.Seek.{seek}
 use Rattle.sbc_abi.specs.Decoder.{seekNumbers, afterSeek, seekState}
 use borrow.Author.Needs.{needs}

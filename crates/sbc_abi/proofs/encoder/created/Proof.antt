@@ -1,6 +1,6 @@
 -- `created` meets its contract.
 -- Assumes nothing.
-use mathlib.Core.Path.{_≡_, refl, sym, ap, _∙_}
+use mathlib.Core.Path.{refl, sym, ap, _∙_}
 use Rattle.sbc_encoder.specs.Encode.{encoderOf}
 use Rattle.sbc_abi.specs.Encoder.{stateOf, createState}
 use borrow.Author.Needs.{needs}

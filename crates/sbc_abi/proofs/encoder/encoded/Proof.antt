@@ -1,6 +1,6 @@
 -- `encoded` meets its contract.
 -- Assumes nothing.
-use mathlib.Core.Path.{_≡_, refl, sym, ap, _∙_}
+use mathlib.Core.Path.{refl, sym, ap, _∙_}
 use Rattle.sbc_encoder.specs.Encode.{encode}
 use Rattle.sbc_abi.specs.Numbers.{codedNumbers}
 use Rattle.sbc_abi.specs.Encoder.{toldEncode, afterEncode, encodeState}

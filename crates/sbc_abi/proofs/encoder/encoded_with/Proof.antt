@@ -1,6 +1,6 @@
 -- `encoded_with` meets its contract.
 -- Assumes nothing.
-use mathlib.Core.Path.{_≡_, ap, _∙_}
+use mathlib.Core.Path.{ap, _∙_}
 use Rattle.sbc_encoder.specs.Told.{toldEncoded}
 use Rattle.sbc_abi.specs.Encoder.{toldEncode, afterEncode}
 use borrow.Author.Needs.{needs}
