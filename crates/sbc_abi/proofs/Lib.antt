@@ -2,3 +2,4 @@
 pub mod Numbers
 pub mod Decoding
 pub mod Encoding
+mod Lending
