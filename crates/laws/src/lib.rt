@@ -1,6 +1,6 @@
 // Laws on integers, sums, lists and bit fields, in specs/ and proofs/, and small functions on integers. Nothing here knows of audio.
 ghost use mathlib.Core.Path.{_≡_};
-ghost use Prim.Native.Nat.{_^_, _<_, _≤_, min};
+ghost use Prim.Native.Nat.{_^_, _<_, _≤_, min, max};
 ghost use lib.IntN.{_+ℤ_, _*ℤ_};
 ghost use mir.Syntax.{w16, w32, w64};
 ghost use mir.Val.{SFits};
@@ -19,6 +19,16 @@ pub fn least(a: usize, b: usize) -> usize
     ensures { λ r. ⌜ r ≡ min a b ⌝ }
 {
     if a < b { a } else { b }
+}
+
+// The greater of two numbers.
+pub fn greater(a: u32, b: u32) -> u32
+    ensures { λ r. ⌜ r ≡ max a b ⌝ }
+{
+    if a < b {
+        return b;
+    }
+    a
 }
 
 // A byte as a 32-bit number; its bound is what the callers' sums rest on.

@@ -14,7 +14,7 @@ use Rattle.sbc_parameters.specs.Seek.{seekOffset, seekSkip}
 use Rattle.sbc_parameters.specs.declared.SbcParameters.{SbcParameters}
 use Rattle.sbc_encoder.specs.Encode.{encodeFrames, encode}
 use Rattle.sbc_decoder.specs.Decode.{decodeAll, decode}
-use Rattle.sbc_decoder.specs.Seek.{Seeked, requestOf, reset, resumed, seekFrom, seekFirst, seekAfter, seek}
+use Rattle.sbc_decoder.specs.Seek.{Sought, requestOf, reset, resumed, seekFrom, seekFirst, seekAfter, seek}
 use Rattle.sbc_encoder.specs.declared.SbcEncoder.{SbcEncoder}
 use Rattle.sbc_decoder.specs.declared.SbcDecoder.{SbcDecoder}
 use Rattle.sbc_decoder.specs.declared.LastParameters.{LastParameters}
@@ -58,7 +58,7 @@ encode-refused e pcm output n =
 
 module _ (d : SbcDecoder) (position n : ℕ) where
   -- a seek that is refused leaves the decoder
-  abbrev Stays : Seeked → Type 0
+  abbrev Stays : Sought → Type 0
   Stays r = r .answer ≡ refuses n → r .decoder ≡ d
 
   stays-first : Stays (seekFirst d position)

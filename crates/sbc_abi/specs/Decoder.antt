@@ -10,7 +10,7 @@ use Rattle.laws.specs.Choice.{if_then_else_}
 use Rattle.laws.specs.Answers.{Told, gives, refuses}
 use Rattle.sbc_filterbank.specs.declared.synthesis.Synthesis.{Synthesis}
 use Rattle.sbc_decoder.specs.Decode.{Decoded, finish, decode}
-use Rattle.sbc_decoder.specs.Seek.{Seeked, reset, seek}
+use Rattle.sbc_decoder.specs.Seek.{Sought, reset, seek}
 use Rattle.sbc_decoder.specs.declared.LastParameters.{LastParameters}
 use Rattle.sbc_decoder.specs.declared.LastParameters.the-variants.{None, Some}
 use Rattle.sbc_decoder.specs.declared.SbcDecoder.{SbcDecoder}
@@ -100,7 +100,7 @@ unfoldable pub seekNumbers : Told SeekRequest → SeekNumbers
 seekNumbers (gives request) = record { «byte_offset» = request .«byte_offset»; «skip_frames» = request .«skip_frames»; refusal = 0 }
 seekNumbers (refuses n) = record { «byte_offset» = 0; «skip_frames» = 0; refusal = n }
 
-unfoldable pub afterSeek : Seeked → SoughtState
+unfoldable pub afterSeek : Sought → SoughtState
 afterSeek r = record { answer = seekNumbers (r .answer); state = stateOf (r .decoder) }
 
 unfoldable pub seekState : DecoderState → ℕ → SoughtState

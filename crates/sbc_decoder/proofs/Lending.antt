@@ -2,7 +2,7 @@
 -- Assumes nothing.
 use Rattle.lending.proofs.Types.{Struct, Enum, Result}
 use Rattle.sbc_decoder.specs.declared.DecodeResult.{DecodeResult}
-use Rattle.sbc_decoder.specs.declared.Sought.{Sought}
+use Rattle.sbc_decoder.specs.declared.SeekResult.{SeekResult}
 use Rattle.sbc_decoder.proofs.SbcDecoder as d
 use Rattle.sbc_decoder.proofs.SbcDecoder.Laws as d′
 use Rattle.codec.proofs.Coded as c
@@ -10,7 +10,7 @@ use Rattle.codec.proofs.Coded.Laws as c′
 use Rattle.sbc_decoder.proofs.SeekOutcome as s
 use Rattle.sbc_decoder.proofs.SeekOutcome.Laws as s′
 use Rattle.sbc_decoder.proofs.DecodeResult as decode
-use Rattle.sbc_decoder.proofs.Sought as seek
+use Rattle.sbc_decoder.proofs.SeekResult as seek
 
 abbrev pub decoder : Struct
 decoder = record { type = d.the-type; laws = d′.the-laws; lowers = d′.lowers; plain = d′.the-plain }
@@ -33,4 +33,4 @@ decode-result =
 
 abbrev pub sought : Result seek-outcome decoder
 sought =
-    record { name = seek.the-type .name; D = Sought; answer = λ r. r .outcome; state = λ r. r .decoder; to-one = seek.the-type .to-one }
+    record { name = seek.the-type .name; D = SeekResult; answer = λ r. r .outcome; state = λ r. r .decoder; to-one = seek.the-type .to-one }

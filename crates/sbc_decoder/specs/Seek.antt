@@ -16,7 +16,7 @@ use Rattle.sbc_decoder.specs.declared.SbcDecoder.{SbcDecoder}
 use Rattle.sbc_decoder.specs.declared.SeekRequest.{SeekRequest}
 use Rattle.sbc_decoder.specs.declared.SeekOutcome.{SeekOutcome}
 use Rattle.sbc_decoder.specs.declared.SeekOutcome.the-variants.{At, Refused}
-use Rattle.sbc_decoder.specs.declared.Sought.{Sought}
+use Rattle.sbc_decoder.specs.declared.SeekResult.{SeekResult}
 
 -- ---- what a seek gives back, by document 01's numbers
 
@@ -25,11 +25,11 @@ toldSeek (At request) = gives request
 toldSeek (Refused e) = refuses (errorNumber e)
 
 -- a seek: its answer, and the decoder that it leaves
-pub record Seeked : Type 0 where
+pub record Sought : Type 0 where
   pub answer : Told SeekRequest
   pub decoder : SbcDecoder
 
-unfoldable pub toldSought : Sought → Seeked
+unfoldable pub toldSought : SeekResult → Sought
 toldSought r = record { answer = toldSeek (r .outcome); decoder = r .decoder }
 
 -- a byte offset, and the positions left to skip
@@ -48,7 +48,7 @@ unfoldable pub resumed : ℕ → SbcDecoder → SbcDecoder
 resumed skip d = withSynthesis cleared (withFinishing false (withSkip skip d))
 
 -- byte offset over u64: InvalidParameter; so too with parameters that are not accepted, which no frame has
-unfoldable pub seekFrom : SbcParameters → SbcDecoder → ℕ → Seeked
+unfoldable pub seekFrom : SbcParameters → SbcDecoder → ℕ → Sought
 seekFrom p d position =
     if accepted p && ltb (seekOffset p position) (2 ^ 64) then
     record { answer = gives (requestOf (seekOffset p position) (seekSkip p position)); decoder = resumed (seekSkip p position) d }
@@ -56,15 +56,15 @@ seekFrom p d position =
     record { answer = refuses 3; decoder = d }
 
 -- nothing decoded yet: position 0 resets the decoder and answers (0, 0), every other is Incomplete
-unfoldable pub seekFirst : SbcDecoder → ℕ → Seeked
+unfoldable pub seekFirst : SbcDecoder → ℕ → Sought
 seekFirst d position =
     if eqb position 0 then record { answer = gives (requestOf 0 0); decoder = reset d } else record { answer = refuses 1; decoder = d }
 
 -- by whether a frame was accepted yet
-unfoldable pub seekAfter : LastParameters → SbcDecoder → ℕ → Seeked
+unfoldable pub seekAfter : LastParameters → SbcDecoder → ℕ → Sought
 seekAfter None d position = seekFirst d position
 seekAfter (Some p) d position = seekFrom p d position
 
 -- the whole call
-unfoldable pub seek : SbcDecoder → ℕ → Seeked
+unfoldable pub seek : SbcDecoder → ℕ → Sought
 seek d position = seekAfter (d .parameters) d position

@@ -83,7 +83,7 @@ pub enum SeekOutcome {
 }
 
 // What a seek gives back, and the decoder after it.
-pub struct Sought {
+pub struct SeekResult {
     pub outcome: SeekOutcome,
     pub decoder: SbcDecoder,
 }
@@ -255,7 +255,7 @@ impl SbcDecoder {
 
     // Seeks to a position, counted in samples of one channel from the start of the audio. The offset is counted from the start of the stream,
     // as if every frame had the parameters of the last one; decoding resumes 9 blocks early, to fill the filterbank, and drops them.
-    pub fn sought(self, position: u64) -> Sought
+    pub fn sought(self, position: u64) -> SeekResult
         ensures { λ r. ⌜ toldSought r ≡ seek self position ⌝ }
     {
         let last = self.parameters;
@@ -266,11 +266,11 @@ impl SbcDecoder {
     }
 
     // With nothing decoded yet.
-    fn seek_first(self, position: u64) -> Sought
+    fn seek_first(self, position: u64) -> SeekResult
         ensures { λ r. ⌜ toldSought r ≡ seekFirst self position ⌝ }
     {
         if position == 0 {
-            return Sought {
+            return SeekResult {
                 outcome: SeekOutcome::At(SeekRequest {
                     byte_offset: 0,
                     skip_frames: 0,
@@ -278,39 +278,39 @@ impl SbcDecoder {
                 decoder: self.restarted(),
             };
         }
-        Sought {
+        SeekResult {
             outcome: SeekOutcome::Refused(Error::Incomplete),
             decoder: self,
         }
     }
 
     // In a stream of frames with these parameters.
-    fn seek_from(self, parameters: SbcParameters, position: u64) -> Sought
+    fn seek_from(self, parameters: SbcParameters, position: u64) -> SeekResult
         ensures { λ r. ⌜ toldSought r ≡ seekFrom parameters self position ⌝ }
     {
         match parameters.validate() {
             Validated::Accepted => self.seek_accepted(parameters, position),
-            Validated::Refused(error) => Sought {
+            Validated::Refused(error) => SeekResult {
                 outcome: SeekOutcome::Refused(error),
                 decoder: self,
             },
         }
     }
 
-    fn seek_accepted(self, parameters: SbcParameters, position: u64) -> Sought
+    fn seek_accepted(self, parameters: SbcParameters, position: u64) -> SeekResult
         requires { ⌜ accepted parameters ≡ true ⌝ }
         ensures { λ r. ⌜ toldSought r ≡ seekFrom parameters self position ⌝ }
     {
         let length = parameters.frame_length() as u64;
         let frame = seek_frame(parameters, position);
         if frame > 18_446_744_073_709_551_615 / length {
-            return Sought {
+            return SeekResult {
                 outcome: SeekOutcome::Refused(Error::InvalidParameter),
                 decoder: self,
             };
         }
         let skip = position - frame * parameters.samples_per_channel() as u64;
-        Sought {
+        SeekResult {
             outcome: SeekOutcome::At(SeekRequest {
                 byte_offset: frame * length,
                 skip_frames: skip as u32,

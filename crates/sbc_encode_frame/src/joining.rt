@@ -1,4 +1,5 @@
 // The scale factors of a frame, and joint stereo: which subbands are coded as the sum and the difference of the channels.
+use laws::greater;
 use sbc_quantizer::scale_factor;
 ghost use mathlib.Core.Path.{_≡_};
 ghost use Prim.Native.Nat.{ℕ, _+_, _≤_, _<_, max};
@@ -19,15 +20,6 @@ fn magnitude(x: i32) -> u32
         return (0 - (x as i64)) as u32;
     }
     x as u32
-}
-
-fn greater(a: u32, b: u32) -> u32
-    ensures { λ r. ⌜ r ≡ max a b ⌝ }
-{
-    if a < b {
-        return b;
-    }
-    a
 }
 
 // The greatest absolute values of the subbands, with those of one block more.

@@ -1,6 +1,6 @@
 // How far two lists of samples are apart.
+use laws::greater;
 ghost use mathlib.Core.Path.{_≡_};
-ghost use Prim.Native.Nat.{max};
 ghost use lib.ListN.{length};
 ghost use Rattle.sbc_figures.specs.Distance.{apart, unequal, differing, farthest};
 
@@ -22,15 +22,6 @@ fn unequal(a: i16, b: i16) -> usize
         return 0;
     }
     1
-}
-
-fn greater(a: u32, b: u32) -> u32
-    ensures { λ r. ⌜ r ≡ max a b ⌝ }
-{
-    if a < b {
-        return b;
-    }
-    a
 }
 
 // How many samples differ.
