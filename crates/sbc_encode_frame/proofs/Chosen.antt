@@ -23,7 +23,8 @@ use Rattle.sbc_quantizer.specs.Quantizing.{scaleFactor}
 use Rattle.sbc_quantizer.proofs.Factors.{scale-factor-le}
 use Rattle.sbc_frame.specs.Encoding.{sampleAt, factorOf, joinedAt, plainCost, joinedCost, isJoined, codedAt}
 use Rattle.sbc_frame.specs.Arrays.{sampleIn, entry}
-use Rattle.sbc_encode_frame.specs.Parts.{CodingRows, factorsIn, halfSums, halfDifferences, joinRow, pickedRow, CodingIn, ChannelsIn}
+use Rattle.sbc_encode_frame.specs.Parts.{CodingRows, CodingIn, ChannelsIn}
+use Rattle.sbc_join.specs.Joining.{factorsIn, halfSums, halfDifferences, joinRow, pickedRow}
 use Rattle.sbc_frame.proofs.Sizes.{joins-two}
 use Rattle.sbc_frame.proofs.Coding.{none-joined, coded-alone}
 

@@ -8,7 +8,7 @@ use lib.ListN.{length, getD, take, set, length-set}
 use borrow.Rule.Slice.PartMut.{putMid}
 use Rattle.laws.specs.Bits.{bitsOf, bitsOfBytes}
 use Rattle.laws.proofs.Parts.{put-tail}
-use Rattle.sbc_encode_frame.specs.Parts.{bitsIn}
+use Rattle.sbc_write.specs.Writing.{bitsIn}
 
 -- ---- a frame as it is written: the bytes of the header first
 abbrev pub headed : List ℕ → List ℕ → List ℕ

@@ -29,7 +29,8 @@ use Rattle.sbc_frame.specs.Layout.{flagBits, channelFactorBits, factorBits, cha
 use Rattle.sbc_frame.specs.Channels.{pcmIn, channelPcm, analyzeBlocks, analysisAfter}
 use Rattle.sbc_frame.specs.Encoding.{sampleAt, channelSamples, factorOf, isJoined, codedAt, codedFactors, codedValues, codedFields, analysisHistories}
 use Rattle.sbc_frame.specs.Arrays.{entry}
-use Rattle.sbc_encode_frame.specs.Parts.{SamplesIn, ChannelsIn, CodingIn, rowBits, blockBitsOf, valueBitsOf, codingBits, codingBytes}
+use Rattle.sbc_encode_frame.specs.Parts.{SamplesIn, ChannelsIn, CodingIn, codingBits, codingBytes}
+use Rattle.sbc_write.specs.Writing.{rowBits, blockBitsOf, valueBitsOf}
 use Rattle.sbc_frame.proofs.Widths.{Enough, allocate-agree, table-width, width-none, width-absent}
 use Rattle.sbc_frame.proofs.Sizes.{row-sizes}
 

@@ -2,83 +2,29 @@
 -- an array of 128, eight places a block, scale factors and widths in rows of eight, and the bits of a frame's body are written one field
 -- after the other. Nothing public cites this.
 -- From document 01, "Parameters", "Quantizing" and "Joint stereo".
-use Prim.Native.Nat.{ℕ, _+_, _*_, _-_, _<_, _^_, _≤_}
+use Prim.Native.Nat.{ℕ, _*_, _-_, _<_, _≤_}
 use mathlib.Core.Path.{_≡_}
-use mathlib.Core.Bool.{Bool, _&&_}
+use mathlib.Core.Bool.{Bool}
 use mathlib.Core.List.{List, [], _∷_, _++_}
-use lib.Dec.{eqb, ltb}
-use lib.ListN.{length, getD, take}
-use lib.IntN.{ℤ, pos, natAbs, _+ℤ_, _-ℤ_}
-use Rattle.laws.specs.Choice.{if_then_else_}
-use Rattle.laws.specs.Lists.{collect, build, greatest}
-use Rattle.laws.specs.Bits.{digit, bitsOf, bitsOfBytes}
-use Rattle.laws.specs.Integers.{floorDiv}
+use lib.ListN.{length, getD}
+use lib.IntN.{ℤ}
+use Rattle.laws.specs.Bits.{digit}
 use Rattle.crc8.specs.Checksum.{checksum}
 use Rattle.sbc_parameters.specs.Parameters.{channels}
 use Rattle.sbc_parameters.specs.Sizes.{joinCount, sideBits, frameLength}
 use Rattle.sbc_parameters.specs.Header.{header}
 use Rattle.sbc_parameters.specs.declared.SbcParameters.{SbcParameters}
 use Rattle.sbc_allocation.specs.Allocate.{allocationTable}
-use Rattle.sbc_quantizer.specs.Quantizing.{scaleFactor, quantize}
 use Rattle.sbc_frame.specs.Layout.{filled}
 use Rattle.sbc_frame.specs.Encoding.{sampleAt, factorOf, isJoined, codedAt}
 use Rattle.sbc_frame.specs.Arrays.{sampleIn, entry}
-use Rattle.sbc_encode_frame.specs.declared.writing.Writer.{Writer}
+use Rattle.sbc_write.specs.Writing.{rowBits, valueBitsOf}
 
 -- ---- from PCM to samples
 
 -- an array holds the samples of n blocks, and zeros behind a block's S samples
 abbrev pub SamplesIn : ℕ → List (List ℤ) → List ℤ → Type 0
 SamplesIn n samples xs = (b s : ℕ) → b < n → s < 8 → sampleIn xs b s ≡ sampleAt samples b s
-
--- ---- scale factors and joint stereo
-
--- the greatest absolute value of each subband in n blocks
-unfoldable pub maximaIn : ℕ → List ℤ → List ℕ
-maximaIn n xs = build 8 (λ s. greatest n (λ b. natAbs (sampleIn xs b s)))
-
--- the scale factor of each subband in n blocks
-unfoldable pub factorsIn : ℕ → List ℤ → List ℕ
-factorsIn n xs = build 8 (λ s. scaleFactor (greatest n (λ b. natAbs (sampleIn xs b s))))
-
--- both halved, then added or subtracted
-unfoldable pub halfSums : List ℤ → List ℤ → List ℤ
-halfSums left right = build 128 (λ k. floorDiv (getD left k (pos 0)) 2 +ℤ floorDiv (getD right k (pos 0)) 2)
-
-unfoldable pub halfDifferences : List ℤ → List ℤ → List ℤ
-halfDifferences left right = build 128 (λ k. floorDiv (getD left k (pos 0)) 2 -ℤ floorDiv (getD right k (pos 0)) 2)
-
--- 1 where a subband but the last of S is joined: the two new scale factors add to less than the old
-unfoldable pub joinRow : ℕ → List ℕ → List ℕ → List ℕ → List ℕ → List ℕ
-joinRow S left right sums differences =
-    build 8 (λ s. digit (ltb (s + 1) S && ltb (entry sums s + entry differences s) (entry left s + entry right s)))
-
--- the joined entry where a flag is set
-unfoldable pub pickedRow : List ℕ → List ℕ → List ℕ → List ℕ
-pickedRow flags plain joined = build 8 (λ s. if eqb (entry flags s) 1 then entry joined s else entry plain s)
-
--- ---- bits
-
--- what a writer has written into bytes, from the first on: whole bytes, and the bits that it still holds
-unfoldable pub bitsIn : List ℕ → Writer → List Bool
-bitsIn bytes w = bitsOfBytes (take (w .at) bytes) ++ bitsOf (w .held) (w .bits)
-
--- a writer that can go on writing into so many bytes
-abbrev pub Ready : ℕ → Writer → Type 0
-Ready size w = (w .held < 8) × (w .bits < 2 ^ w .held) × (8 * w .at + w .held ≤ 8 * size)
-
--- `count` numbers of a row, of so many bits each
-unfoldable pub rowBits : List ℕ → ℕ → ℕ → List Bool
-rowBits row width count = collect count (λ s. bitsOf width (entry row s))
-
--- the quantized values of a channel in block b; a subband of 0 bits has none
-unfoldable pub blockBitsOf : List ℤ → List ℕ → List ℕ → ℕ → List Bool
-blockBitsOf xs widths factors b = collect 8 (λ s. bitsOf (entry widths s) (quantize (sampleIn xs b s) (entry factors s) (entry widths s)))
-
--- both channels' in n blocks
-unfoldable pub valueBitsOf : List ℤ → List ℤ → List ℕ → List ℕ → List ℕ → List ℕ → ℕ → List Bool
-valueBitsOf left right left-widths right-widths left-factors right-factors n =
-    collect n (λ b. blockBitsOf left left-widths left-factors b ++ blockBitsOf right right-widths right-factors b)
 
 -- ---- a frame
 

@@ -1,17 +1,17 @@
 // One frame encoded.
 use crate::analyzing::analyze_channel;
-use crate::joining::factors_of;
-use crate::joining::half_differences;
-use crate::joining::half_sums;
-use crate::joining::join_flags;
-use crate::joining::pick_row;
-use crate::joining::pick_samples;
-use crate::writing::Writer;
-use crate::writing::finish;
-use crate::writing::put_row;
-use crate::writing::put_values;
 use sbc_allocation::allocate;
+use sbc_join::factors_of;
+use sbc_join::half_differences;
+use sbc_join::half_sums;
+use sbc_join::join_flags;
+use sbc_join::pick_row;
+use sbc_join::pick_samples;
 use sbc_parameters::SbcParameters;
+use sbc_write::Writer;
+use sbc_write::finish;
+use sbc_write::put_row;
+use sbc_write::put_values;
 ghost use mathlib.Core.Path.{_≡_};
 ghost use mathlib.Core.Bool.{true};
 ghost use mathlib.Core.List.{List, [], _∷_};

@@ -1,0 +1,39 @@
+-- How the code takes the scale factors and joint stereo of a frame, for the contracts of its inner functions alone: rows of eight, and arrays of 128
+-- samples, eight places a block. Nothing public cites this.
+-- From document 01, "Quantizing" and "Joint stereo".
+use Prim.Native.Nat.{ℕ, _+_}
+use mathlib.Core.Bool.{_&&_}
+use mathlib.Core.List.{List}
+use lib.Dec.{eqb, ltb}
+use lib.ListN.{getD}
+use lib.IntN.{ℤ, pos, natAbs, _+ℤ_, _-ℤ_}
+use Rattle.laws.specs.Choice.{if_then_else_}
+use Rattle.laws.specs.Lists.{build, greatest}
+use Rattle.laws.specs.Bits.{digit}
+use Rattle.laws.specs.Integers.{floorDiv}
+use Rattle.sbc_quantizer.specs.Quantizing.{scaleFactor}
+use Rattle.sbc_frame.specs.Arrays.{sampleIn, entry}
+
+-- the greatest absolute value of each subband in n blocks
+unfoldable pub maximaIn : ℕ → List ℤ → List ℕ
+maximaIn n xs = build 8 (λ s. greatest n (λ b. natAbs (sampleIn xs b s)))
+
+-- the scale factor of each subband in n blocks
+unfoldable pub factorsIn : ℕ → List ℤ → List ℕ
+factorsIn n xs = build 8 (λ s. scaleFactor (greatest n (λ b. natAbs (sampleIn xs b s))))
+
+-- both halved, then added or subtracted
+unfoldable pub halfSums : List ℤ → List ℤ → List ℤ
+halfSums left right = build 128 (λ k. floorDiv (getD left k (pos 0)) 2 +ℤ floorDiv (getD right k (pos 0)) 2)
+
+unfoldable pub halfDifferences : List ℤ → List ℤ → List ℤ
+halfDifferences left right = build 128 (λ k. floorDiv (getD left k (pos 0)) 2 -ℤ floorDiv (getD right k (pos 0)) 2)
+
+-- 1 where a subband but the last of S is joined: the two new scale factors add to less than the old
+unfoldable pub joinRow : ℕ → List ℕ → List ℕ → List ℕ → List ℕ → List ℕ
+joinRow S left right sums differences =
+    build 8 (λ s. digit (ltb (s + 1) S && ltb (entry sums s + entry differences s) (entry left s + entry right s)))
+
+-- the joined entry where a flag is set
+unfoldable pub pickedRow : List ℕ → List ℕ → List ℕ → List ℕ
+pickedRow flags plain joined = build 8 (λ s. if eqb (entry flags s) 1 then entry joined s else entry plain s)

@@ -1,0 +1,2 @@
+-- Bits flushed by bytes.
+mod Flushing
