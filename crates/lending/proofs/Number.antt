@@ -37,7 +37,6 @@ use denote.Builtin.{u64, RefMutOf}
 use denote.Ref.{RefT, MutRef, now, ptr-vals, mut-tells}
 use denote.Signature.{Signature, plain}
 use denote.Steps.{opens, closes, owned, peeks, heard, nothing, only}
-use denote.Enum.Laws as EL
 use denote.Struct.Steps.{spelt}
 use denote.Struct.Laws as LL
 use denote.Triple.Statement.{Contract, Triple}
@@ -50,11 +49,9 @@ use denote.Triple.Walked.{says, Stays, stay-ref, stay-none, walkOf, AllGo, goes-
 use denote.Exit.{yes}
 use denote.Struct.Declared as SD
 use denote.Struct.Struct.{layout}
-use denote.Enum.Declared as ED
-use denote.Enum.Enum.{layout as enum-layout}
-use Rattle.lending.proofs.Types.{Struct, Enum, Result, state-row, answer-row, result-type, result-laws, result-row}
+use Rattle.lending.proofs.Types.{Struct, Value, Of, Result, state-row, value-row, value-val, value-makes, value-lawful, result-type, result-laws, result-row}
 
-module _ (T : Struct) (O : Enum) (S : Result O T) (#core : Name) (Says : T .type .D → ℕ → O .type .D → T .type .D → Type 0) where
+module _ (T : Struct) (O : Value) (S : Result O T) (#core : Name) (Says : T .type .D → ℕ → Of O → T .type .D → Type 0) where
   -- the signature and the contract of the core, and of the call
   abbrev core-signature : Signature
   core-signature = record {
@@ -79,7 +76,7 @@ module _ (T : Struct) (O : Enum) (S : Result O T) (#core : Name) (Says : T .type
     lifetimes = 1;
     outlives = [];
     params = RefMutOf (0 ∷ []) tt (plain (λ _. state-row T)) (λ _. tt) ∷ plain (λ _. u64) ∷ [];
-    result = plain (λ _. answer-row O);
+    result = plain (λ _. value-row O);
   }
 
   abbrev lent-ended : Ended
@@ -105,7 +102,7 @@ module _ (T : Struct) (O : Enum) (S : Result O T) (#core : Name) (Says : T .type
     outlives = [];
     params = 2;
     locals =
-        local (enum-layout (ED.shape (O .type))) valueLocal
+        local (O .mir) valueLocal
         ∷ local (tyRef (named 0) mut (pointee (state-row T .written))) valueLocal
         ∷ local (tyInt w64) valueLocal
         ∷ local (layout (SD.shape (result-type S))) valueLocal
@@ -163,7 +160,7 @@ module _ (T : Struct) (O : Enum) (S : Result O T) (#core : Name) (Says : T .type
 
     -- of what the core returns: the relations of its two fields
     module _ (r : S .D) (w : Val) (is : Is (result-row S) r (w ∷ [])) where
-      answer-is : Is (answer-row O) (S .answer r) (EL.vals (O .type) (O .laws) (S .answer r))
+      answer-is : Is (value-row O) (S .answer r) (value-val O (S .answer r) ∷ [])
       answer-is = LL.owed (result-type S) (result-laws S) r (w ∷ []) is .0
 
       state-is : Is (state-row T) (S .state r) (LL.vals (T .type) (T .laws) (S .state r))
@@ -171,15 +168,15 @@ module _ (T : Struct) (O : Enum) (S : Result O T) (#core : Name) (Says : T .type
 
     exits : (r : S .D) (w : Val) → Is (result-row S) r (w ∷ []) → Says h n (S .answer r) (S .state r)
         → ent 𝓤 (sep 𝓤 (A .obs γ (state-row T .coded .code (S .state r))) (sep 𝓤 (A .bor κ (Body (mem (state-row T)) b o γ)) (A .lft κ q))) (Post
-        (EL.val (O .type) (O .laws) (S .answer r)))
+        (value-val O (S .answer r)))
     exits r w is e =
         qed W (‵ (fobs γ (state-row T .coded .code (S .state r))) ∷ ‵ (fbor κ (Body (mem (state-row T)) b o γ)) ∷ ‵ (flft κ q) ∷ []) ∵
         suffices ! _ (ends-at 𝓤 H A lent-ended stayed (lent-clauses 𝓤) W (((κ, tt), (q, tt), tt, x, at), tt)
-        (EL.val (O .type) (O .laws) (S .answer r)) (S .answer r) (S .state r, (tt, tt)) (tt, (tt, tt))) $
+        (value-val O (S .answer r)) (S .answer r) (S .state r, (tt, tt)) (tt, (tt, tt))) $
         says ! e $ nothing ! $ move ! (3 ∷ 0 ∷ []) $ join ! $
         frame ! $ feqI ! (List Val) (vptr b o ∷ []) (vptr b o ∷ []) refl $ fjoin3 ! $ nothing ! $
         owned ! u64 (Is u64) (uint-makes 𝓤 H A W w64) n _ (refl, n-fits) $ fjoin ! $ move ! (1 ∷ 0 ∷ []) $ fjoin ! $
-        owned ! (answer-row O) (Is (answer-row O)) (EL.makes (O .type) (O .plain) 𝓤 H A) (S .answer r) _ (answer-is r w is) $
+        owned ! (value-row O) (Is (value-row O)) (value-makes O 𝓤 H A) (S .answer r) _ (answer-is r w is) $
         move ! (1 ∷ 0 ∷ []) $ done !
 
     module _ (C : Calls 𝓤 H) (Λ : Loops 𝓤 H) (fm : FmC 𝓤 H (W .laws) C) (known : Triple 𝓤 (C #core) (Core 𝓤 H A)) where
@@ -216,7 +213,7 @@ module _ (T : Struct) (O : Enum) (S : Result O T) (#core : Name) (Says : T .type
           (hop ! (look ! 11 refl) (stop !))) (store-raw ! 1 refl (LL.lawful (T .type) (T .laws) 𝓤 H A W .typed (S .state r) _
           (state-is r w is) .0)) $
           assigns ! (of-opd ! (load ! (from ! (fld ! refl (stop !))) (look-in ! 7 (sub ! 0 refl (whole !))))) (from ! (stop !)) (init ! 13 refl
-          (EL.lawful (O .type) (O .laws) 𝓤 H A W (O .few) .typed (S .answer r) _ (answer-is r w is) .0)) $
+          (value-lawful O 𝓤 H A W .typed (S .answer r) _ (answer-is r w is) .0)) $
           -- the borrow is closed at the state that the core returned
           owned ! (state-row T) (Is (state-row T)) (LL.makes (T .type) (T .plain) 𝓤 H A) (S .state r) _ (state-is r w is) $
           move ! (2 ∷ 0 ∷ 3 ∷ 4 ∷ 5 ∷ []) $ closes ! tt (state-row T) (S .state r) (LL.vals (T .type) (T .laws) (S .state r)) b o $

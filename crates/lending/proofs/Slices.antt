@@ -40,7 +40,6 @@ use denote.Ref.{RefT, MutRef, now, ptr-vals, mut-tells}
 use denote.Signature.{Signature, plain}
 use denote.Slice.{sliceVal, sliceTy, ShrSlice, MutSlice, Room, finally, slice-vals, shr-slice-tells, shr-slice-lawful, shr-slice-copy, mut-slice-tells}
 use denote.Steps.{opens, closes, owned, peeks, heard, nothing, only}
-use denote.Enum.Laws as EL
 use denote.Struct.Steps.{spelt}
 use denote.Struct.Laws as LL
 use denote.Triple.Statement.{Contract, Triple}
@@ -53,12 +52,10 @@ use denote.Triple.Walked.{says, Stays, stay-ref, stay-none-slice, gave-slice, wa
 use denote.Exit.{yes}
 use denote.Struct.Declared as SD
 use denote.Struct.Struct.{layout}
-use denote.Enum.Declared as ED
-use denote.Enum.Enum.{layout as enum-layout}
-use Rattle.lending.proofs.Types.{Struct, Enum, Result, state-row, answer-row, result-type, result-laws, result-row}
+use Rattle.lending.proofs.Types.{Struct, Value, Of, Result, state-row, value-row, value-val, value-makes, value-lawful, result-type, result-laws, result-row}
 
-module _ (T : Struct) (O : Enum) (S : Result O T) (X : RattleType) (one-in : One (X .mir)) (Y : RattleType) (one-out : One (Y .mir)) (#core : Name)
-    (Says : T .type .D → List (X .Denot) → List (Y .Denot) → O .type .D → T .type .D → List (Y .Denot) → Type 0) where
+module _ (T : Struct) (O : Value) (S : Result O T) (X : RattleType) (one-in : One (X .mir)) (Y : RattleType) (one-out : One (Y .mir)) (#core : Name)
+    (Says : T .type .D → List (X .Denot) → List (Y .Denot) → Of O → T .type .D → List (Y .Denot) → Type 0) where
   -- the signature and the contract of the core, and of the call
   abbrev core-signature : Signature
   core-signature = record {
@@ -85,7 +82,7 @@ module _ (T : Struct) (O : Enum) (S : Result O T) (X : RattleType) (one-in : One
     outlives = [];
     params = RefMutOf (0 ∷ []) tt (plain (λ _. state-row T)) (λ _. tt) ∷ SliceRefOf (1 ∷ []) tt (plain (λ _. X)) (λ _. one-in) ∷ SliceRefMutOf
         (2 ∷ []) tt (plain (λ _. Y)) (λ _. one-out) ∷ [];
-    result = plain (λ _. answer-row O);
+    result = plain (λ _. value-row O);
   }
 
   abbrev lent-ended : Ended
@@ -111,7 +108,7 @@ module _ (T : Struct) (O : Enum) (S : Result O T) (X : RattleType) (one-in : One
     outlives = [];
     params = 3;
     locals =
-        local (enum-layout (ED.shape (O .type))) valueLocal
+        local (O .mir) valueLocal
         ∷ local (tyRef (named 0) mut (pointee (state-row T .written))) valueLocal
         ∷ local (sliceTy (tyRef (named 1) imm (pointee (X .written)))) valueLocal
         ∷ local (sliceTy (tyRef (named 2) mut (pointee (Y .written)))) valueLocal
@@ -189,7 +186,7 @@ module _ (T : Struct) (O : Enum) (S : Result O T) (X : RattleType) (one-in : One
 
     -- of what the core returns: the relations of its two fields
     module _ (r : S .D) (w : Val) (is : Is (result-row S) r (w ∷ [])) where
-      answer-is : Is (answer-row O) (S .answer r) (EL.vals (O .type) (O .laws) (S .answer r))
+      answer-is : Is (value-row O) (S .answer r) (value-val O (S .answer r) ∷ [])
       answer-is = LL.owed (result-type S) (result-laws S) r (w ∷ []) is .0
 
       state-is : Is (state-row T) (S .state r) (LL.vals (T .type) (T .laws) (S .state r))
@@ -197,18 +194,17 @@ module _ (T : Struct) (O : Enum) (S : Result O T) (X : RattleType) (one-in : One
 
     exits : (r : S .D) (w : Val) (zs : List (Y .Denot)) → Is (result-row S) r (w ∷ []) → Said r zs → length zs ≡ length (xo .now)
         → ent 𝓤 (⋆ 𝓤 H A (‵ (fobs γ (state-row T .coded .code (S .state r))) ∷ ‵ (fbor κ
-        (Body (mem (state-row T)) b o γ)) ∷ ‵ (flft κ q) ∷ Toks ∷ ‵ In ∷ ‵ (finally Y (xo .name) zs) ∷ [])) (Post (EL.val (O .type) (O .laws)
-        (S .answer r)))
+        (Body (mem (state-row T)) b o γ)) ∷ ‵ (flft κ q) ∷ Toks ∷ ‵ In ∷ ‵ (finally Y (xo .name) zs) ∷ [])) (Post (value-val O (S .answer r)))
     exits r w zs is e l =
         qed W (‵ (fobs γ (state-row T .coded .code (S .state r))) ∷ ‵ (fbor κ
         (Body (mem (state-row T)) b o γ)) ∷ ‵ (flft κ q) ∷ Toks ∷ ‵ In ∷ ‵ (finally Y (xo .name) zs) ∷ []) ∵
         suffices ! _ (ends-at 𝓤 H A lent-ended stayed (lent-clauses 𝓤) W (((κ, (κ₁, (κ₂, tt))), (q, (q₁, (q₂, tt))), tt, x, at), tt)
-        (EL.val (O .type) (O .laws) (S .answer r)) (S .answer r) (S .state r, (tt, (zs, tt))) (tt, (tt, (l, tt)))) $
+        (value-val O (S .answer r)) (S .answer r) (S .state r, (tt, (zs, tt))) (tt, (tt, (l, tt)))) $
         says ! e $
         move ! (2 ∷ 3 ∷ []) $ join ! $ frame ! $ feqI ! (List Val) (vptr b o ∷ []) (vptr b o ∷ []) refl $ fjoin3 ! $
         -- [the state's reference; the input; the output's last list]
         nothing ! $ move ! (3 ∷ 0 ∷ []) $ fjoin ! $ move ! (2 ∷ 0 ∷ []) $ fjoin ! $ move ! (1 ∷ 0 ∷ []) $ fjoin ! $
-        owned ! (answer-row O) (Is (answer-row O)) (EL.makes (O .type) (O .plain) 𝓤 H A) (S .answer r) _ (answer-is r w is) $
+        owned ! (value-row O) (Is (value-row O)) (value-makes O 𝓤 H A) (S .answer r) _ (answer-is r w is) $
         move ! (1 ∷ 0 ∷ []) $ done !
 
     module _ (C : Calls 𝓤 H) (Λ : Loops 𝓤 H) (fm : FmC 𝓤 H (W .laws) C) (known : Triple 𝓤 (C #core) (Core 𝓤 H A)) where
@@ -266,7 +262,7 @@ module _ (T : Struct) (O : Enum) (S : Result O T) (X : RattleType) (one-in : One
           (hop ! (look ! 21 refl) (stop !))) (store-raw ! 5 refl (LL.lawful (T .type) (T .laws) 𝓤 H A W .typed (S .state r) _
           (state-is r w is) .0)) $
           assigns ! (of-opd ! (load ! (from ! (fld ! refl (stop !))) (look-in ! 15 (sub ! 0 refl (whole !))))) (from ! (stop !)) (init ! 23 refl
-          (EL.lawful (O .type) (O .laws) 𝓤 H A W (O .few) .typed (S .answer r) _ (answer-is r w is) .0)) $
+          (value-lawful O 𝓤 H A W .typed (S .answer r) _ (answer-is r w is) .0)) $
           -- the borrow is closed at the state that the core returned
           owned ! (state-row T) (Is (state-row T)) (LL.makes (T .type) (T .plain) 𝓤 H A) (S .state r) _ (state-is r w is) $
           move ! (6 ∷ 0 ∷ 7 ∷ 8 ∷ 9 ∷ []) $ closes ! tt (state-row T) (S .state r) (LL.vals (T .type) (T .laws) (S .state r)) b o $
