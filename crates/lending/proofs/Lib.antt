@@ -2,5 +2,5 @@
 -- form of such a call.
 pub mod Types
 pub mod Alone
-pub mod Number
+pub mod Passed
 pub mod Slices

@@ -1,8 +1,9 @@
--- `sbc_decoder_seek` meets its contract: it is a thin call over `sought`, which `lending`'s Number is of.
+-- `sbc_decoder_seek` meets its contract: it is a thin call over `sought`, which `lending`'s Passed is of.
 -- Assumes nothing.
 use Prim.Native.Nat.{ℕ}
 use mathlib.Core.Path.{_≡_, refl}
-use Rattle.lending.proofs.Number.{Thin, function, lent-call}
+use Rattle.lending.proofs.Types.{passed-u64}
+use Rattle.lending.proofs.Passed.{Thin, function, lent-call}
 use Rattle.sbc_abi.specs.Decoder.{seekState}
 use Rattle.sbc_abi.specs.declared.DecoderState.{DecoderState}
 use Rattle.sbc_abi.specs.declared.SeekNumbers.{SeekNumbers}
@@ -20,13 +21,13 @@ abbrev Says : DecoderState → ℕ → SeekNumbers → DecoderState → Type 0
 Says s position answer next = _≡_ {A = SoughtState} (record { answer = answer; state = next }) (seekState s position)
 
 -- its contract and its code are those of a thin call
-contract-is : Thin decoder seek-answer sought #core Says (λ M 𝓤 H. clauses 𝓤 H)
+contract-is : Thin decoder passed-u64 seek-answer sought #core Says (λ M 𝓤 H. clauses 𝓤 H)
 contract-is M 𝓤 H A at-mem run = refl
 
-code-is : code.function ≡ function decoder seek-answer sought #core Says
+code-is : code.function ≡ function decoder passed-u64 seek-answer sought #core Says
 code-is = refl
 
 pub sbc-decoder-seek-spec : {M : Type 1} → statement M
 unfolding code.routine
 sbc-decoder-seek-spec 𝓤 H 𝓜 𝓖 𝓡 =
-    lent-call decoder seek-answer sought #core Says 𝓤 H 𝓜 𝓖 𝓡 code.env #lent routine (code.unfolded 𝓤 H 𝓜 𝓡) refl (met 𝓤 H 𝓜 𝓖 𝓡)
+    lent-call decoder passed-u64 seek-answer sought #core Says 𝓤 H 𝓜 𝓖 𝓡 code.env #lent routine (code.unfolded 𝓤 H 𝓜 𝓡) refl (met 𝓤 H 𝓜 𝓖 𝓡)
