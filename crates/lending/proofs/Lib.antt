@@ -1,6 +1,7 @@
 -- Thin calls on a state that is lent by `&mut`: the state is copied out and passed by value, and what comes back is stored. One file for each
 -- form of such a call.
 pub mod Types
+pub mod Form
 pub mod Alone
 pub mod Passed
 pub mod Slices
