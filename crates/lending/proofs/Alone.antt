@@ -42,10 +42,11 @@ use denote.Exit.{yes}
 use denote.Struct.Declared as SD
 use denote.Struct.Struct.{layout}
 use Rattle.lending.proofs.Types.{Struct, state-row}
+use Rattle.lending.proofs.Bare.{signature, ended, stayed, goes, clauses, arg, at, Post, exits, walks}
 use Rattle.lending.proofs.Form.{Form, IsThin, Core, Theorem, theorem}
 
 module _ (T : Struct) (#core : Name) (Says : T .type .D → T .type .D → Type 0) where
-  -- the signature and the contract of the core, and of the call
+  -- the signature and the contract of the core
   abbrev core-signature : Signature
   core-signature = record {
     lifetimes = 0;
@@ -62,24 +63,6 @@ module _ (T : Struct) (#core : Name) (Says : T .type .D → T .type .D → Type 
     ghost = Unit {0};
     requires = λ _. emp 𝓤;
     ensures = λ _ r end. fact 𝓤 (Says (a .0) r);
-  }
-
-  abbrev lent-signature : Signature
-  lent-signature = record {
-    lifetimes = 1;
-    outlives = [];
-    params = RefMutOf (0 ∷ []) tt (plain (λ _. state-row T)) (λ _. tt) ∷ [];
-    result = plain (λ _. unit);
-  }
-
-  abbrev lent-ended : Ended
-  lent-ended = record { signature = lent-signature; kept = (yes, tt) }
-
-  abbrev lent-clauses : {M : Type 1} (𝓤 : URA M) → Clauses 𝓤 lent-ended
-  lent-clauses 𝓤 κs a = record {
-    ghost = Unit {0};
-    requires = λ _. emp 𝓤;
-    ensures = λ _ r end. fact 𝓤 (Says (a .0 .now) (now (end .0)));
   }
 
   -- the call's code
@@ -102,25 +85,19 @@ module _ (T : Struct) (#core : Name) (Says : T .type .D → T .type .D → Type 
         return)));
   }
 
-  abbrev Arg : Type 0
-  Arg = RefT (T .type .D) × Unit {0}
-
-  abbrev stayed : Stays (lent-ended .signature .params) (lent-ended .kept)
-  stayed = (stay-ref (0 ∷ []) tt (plain (λ _. state-row T)), tt)
-
   abbrev form : Form
   form = record {
     core = core-ended;
     core-clauses = core-clauses;
-    lent = lent-ended;
-    lent-clauses = lent-clauses;
-    stays = stayed;
+    lent = ended T;
+    lent-clauses = clauses T Says;
+    stays = stayed T;
     #core = #core;
     function = function;
   }
 
   -- that a function's contract is this
-  abbrev pub Thin : ((M : Type 1) (𝓤 : URA M) (H : Heap 𝓤) → Atoms 𝓤 → (Memory → SProp 𝓤) → (Routine → Fun 𝓤) → Clauses 𝓤 lent-ended) → Type 2
+  abbrev pub Thin : ((M : Type 1) (𝓤 : URA M) (H : Heap 𝓤) → Atoms 𝓤 → (Memory → SProp 𝓤) → (Routine → Fun 𝓤) → Clauses 𝓤 (ended T)) → Type 2
   Thin = IsThin form
 
   module _ {M : Type 1} (𝓤 : URA M) (H : Heap 𝓤) (A : Atoms 𝓤) where
@@ -129,18 +106,9 @@ module _ (T : Struct) (#core : Name) (Says : T .type .D → T .type .D → Type 
     core-of h r = exE 𝓤 _ (λ ws. snd∗ 𝓤 (sem 𝓤 H A (lasts core-ended tt (h, tt) ws)) (fact 𝓤 (Says h r)))
 
   module _ {M : Type 1} (𝓤 : URA M) (H : Heap 𝓤) (A : Atoms 𝓤) (W : Given 𝓤 H A) (κ : Lft) (q : Share) (b o : ℕ) (γ : GName) (h : T .type .D) where
-    abbrev x : Arg
-    x = (record { ptr = (b, o); name = γ; now = h }, tt)
-
-    abbrev at : List Val × Unit {0}
-    at = (vptr b o ∷ [], tt)
-
     -- the state's machine value
     abbrev mach : Val
     mach = LL.val (T .type) (T .laws) h
-
-    abbrev Post : Val → SProp 𝓤
-    Post = walkOf 𝓤 H A lent-ended stayed (lent-clauses 𝓤) .post (((κ, tt), (q, tt), tt, x, at), tt)
 
     abbrev to-core : Core form 𝓤 H A .Ghost
     to-core = ((tt, tt, tt, (h, tt), (mach ∷ [], tt)), tt)
@@ -148,19 +116,10 @@ module _ (T : Struct) (#core : Name) (Says : T .type .D → T .type .D → Type 
     goes-core : ent 𝓤 (sem 𝓤 H A (state-row T .own h (mach ∷ []))) (Core form 𝓤 H A .pre to-core)
     goes-core = qed W (‵ (state-row T .own h (mach ∷ [])) ∷ []) ∵ nothing ! $ move ! (1 ∷ 0 ∷ []) $ join ! $ nothing ! $ join ! $ frame ! $ done !
 
-    exits : (r : T .type .D) → Says h r
-        → ent 𝓤 (sep 𝓤 (A .obs γ (state-row T .coded .code r)) (sep 𝓤 (A .bor κ (Body (mem (state-row T)) b o γ)) (A .lft κ q))) (Post vunit)
-    exits r e =
-        qed W (‵ (fobs γ (state-row T .coded .code r)) ∷ ‵ (fbor κ (Body (mem (state-row T)) b o γ)) ∷ ‵ (flft κ q) ∷ []) ∵
-        suffices ! _ (ends-at 𝓤 H A lent-ended stayed (lent-clauses 𝓤) W (((κ, tt), (q, tt), tt, x, at), tt) vunit tt (r, tt) (tt, tt)) $
-        says ! e $ nothing ! $ move ! (3 ∷ 0 ∷ []) $ join ! $
-        frame ! $ feqI ! (List Val) (vptr b o ∷ []) (vptr b o ∷ []) refl $ fjoin3 ! $ nothing ! $ move ! (1 ∷ 0 ∷ []) $ fjoin ! $
-        feqI ! (List Val) (vunit ∷ []) (vunit ∷ []) refl $ move ! (1 ∷ 0 ∷ []) $ done !
-
     module _ (C : Calls 𝓤 H) (Λ : Loops 𝓤 H) (fm : FmC 𝓤 H (W .laws) C) (known : Triple 𝓤 (C #core) (Core form 𝓤 H A)) where
-      walk : ent 𝓤 (onEntry 𝓤 H A lent-signature (κ, tt) (q, tt) x at) (WpFn 𝓤 H C Λ function (vptr b o ∷ []) Post)
+      walk : ent 𝓤 (onEntry 𝓤 H A (signature T) (κ, tt) (q, tt) (arg T Says 𝓤 H A κ q b o γ h) (at T Says 𝓤 H A κ q b o γ h)) (WpFn 𝓤 H C Λ function (vptr b o ∷ []) (Post T Says 𝓤 H A κ q b o γ h))
       walk =
-          qed W ((‵ (flft κ q) ⊛ ‵ ftrue) ∷ ‵ (owns (MutRef (named 0) κ (state-row T) ∷ []) x at) ∷ []) ∵ split ! $ move ! (2 ∷ []) $ fsplit ! $
+          qed W ((‵ (flft κ q) ⊛ ‵ ftrue) ∷ ‵ (owns (MutRef (named 0) κ (state-row T) ∷ []) (arg T Says 𝓤 H A κ q b o γ h) (at T Says 𝓤 H A κ q b o γ h)) ∷ []) ∵ split ! $ move ! (2 ∷ []) $ fsplit ! $
           fsplit3 ! $ drop ! $ move ! (0 ∷ 1 ∷ 3 ∷ []) $
           -- [obs; the borrow; the token; true; true]
           enter ! C Λ function (vptr b o ∷ []) _ $
@@ -190,18 +149,8 @@ module _ (T : Struct) (#core : Name) (Says : T .type .D → T .type .D → Type 
           -- [obs; the borrow; the token; _3; …; _2; …; _1; …; _0; …]
           returns ! (look ! 9 refl) $ forget ! 3 refl $ forget ! 5 refl $ forget ! 7 refl $ forget ! 9 refl $ move ! (9 ∷ 10 ∷ []) $ free1 ! $
           move ! (7 ∷ 8 ∷ []) $ free1 ! $ move ! (5 ∷ 6 ∷ []) $ free1 ! $ move ! (3 ∷ 4 ∷ []) $ free1 ! $ free0 ! $
-          keep ! (0 ∷ 1 ∷ 2 ∷ []) $ by ! (exits r e)))))))))))
-
-  module _ {M : Type 1} (𝓤 : URA M) (H : Heap 𝓤) (A : Atoms 𝓤) (W : Given 𝓤 H A) where
-    lent-walks : (C : Calls 𝓤 H) (Λ : Loops 𝓤 H) → FmC 𝓤 H (W .laws) C → Triple 𝓤 (C #core) (Core form 𝓤 H A)
-        → Walks 𝓤 H A lent-ended stayed (WpFn 𝓤 H C Λ function) (lent-clauses 𝓤)
-    lent-walks C Λ fm known = walked 𝓤 H A lent-ended stayed (lent-clauses 𝓤) (WpFn 𝓤 H C Λ function) (λ κs. (ptr-vals, tt)) (λ κs.
-        (mut-tells (named 0) (κs .0) (state-row T), tt))
-        (λ κs qs bounds a _ _. via 𝓤 _ (fst∗ 𝓤 _ (emp 𝓤))
-        (walk 𝓤 H A W (κs .0) (qs .0) (a .0 .ptr .0) (a .0 .ptr .1) (a .0 .name) (a .0 .now) C Λ fm known))
-
-    goes : AllGo 𝓤 H A W 1 (lent-signature .params) (lent-ended .kept) stayed
-    goes = (goes-ref 𝓤 H A W 1 0 tt (plain (λ _. state-row T)), tt)
+          keep ! (0 ∷ 1 ∷ 2 ∷ []) $ by ! (exits T Says 𝓤 H A κ q b o γ h W r e)))))))))))
 
   pub lent-call : {M : Type 1} (𝓤 : URA M) → Theorem form 𝓤
-  lent-call = theorem form (λ M 𝓤 H A W. goes 𝓤 H A W) (λ M 𝓤 H A W. lent-walks 𝓤 H A W)
+  lent-call = theorem form (goes T) (λ M 𝓤 H A W C Λ fm known. walks T Says 𝓤 H A (WpFn 𝓤 H C Λ function)
+      (λ κ q b o γ h. walk 𝓤 H A W κ q b o γ h C Λ fm known))

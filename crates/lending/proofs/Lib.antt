@@ -2,6 +2,8 @@
 -- form of such a call.
 pub mod Types
 pub mod Form
+pub mod Bare
+pub mod Made
 pub mod Alone
 pub mod Passed
 pub mod Slices
