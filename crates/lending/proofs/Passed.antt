@@ -44,7 +44,7 @@ use denote.Triple.Walked.{says, Stays, stay-ref, stay-none, walkOf, AllGo, goes-
 use denote.Exit.{yes}
 use denote.Struct.Declared as SD
 use denote.Struct.Struct.{layout}
-use Rattle.lending.proofs.Types.{Struct, Value, Of, Passed, Result, state-row, value-row, value-val, value-vals, value-tells, value-makes, value-lawful, result-type, result-laws, result-row}
+use Rattle.lending.proofs.Types.{Struct, Value, Of, Passed, Result, state-row, value-row, value-val, value-vals, value-tells, value-makes, value-lawful, result-type, result-laws, result-row, answer-is, state-is}
 use Rattle.lending.proofs.Form.{Form, IsThin, Core, Theorem, theorem}
 
 module _ (T : Struct) (N : Passed) (O : Value) (S : Result O T) (#core : Name) (Says : T .type .D → Of (N .value) → Of O → T .type .D → Type 0) where
@@ -156,14 +156,6 @@ module _ (T : Struct) (N : Passed) (O : Value) (S : Result O T) (#core : Name) (
         qed W (‵ (state-row T .own h (mach ∷ [])) ∷ []) ∵ nothing ! $ owned ! (value-row (N .value)) (Is (value-row (N .value))) (value-makes (N .value) 𝓤 H A) n _ n-is $ join ! $
         move ! (1 ∷ 0 ∷ []) $ join ! $ nothing ! $ join ! $ frame ! $ done !
 
-    -- of what the core returns: the relations of its two fields
-    module _ (r : S .D) (w : Val) (is : Is (result-row S) r (w ∷ [])) where
-      answer-is : Is (value-row O) (S .answer r) (value-val O (S .answer r) ∷ [])
-      answer-is = LL.owed (result-type S) (result-laws S) r (w ∷ []) is .0
-
-      state-is : Is (state-row T) (S .state r) (LL.vals (T .type) (T .laws) (S .state r))
-      state-is = LL.owed (result-type S) (result-laws S) r (w ∷ []) is .1 .0
-
     exits : (r : S .D) (w : Val) → Is (result-row S) r (w ∷ []) → Says h n (S .answer r) (S .state r)
         → ent 𝓤 (sep 𝓤 (A .obs γ (state-row T .coded .code (S .state r))) (sep 𝓤 (A .bor κ (Body (mem (state-row T)) b o γ)) (A .lft κ q))) (Post
         (value-val O (S .answer r)))
@@ -174,7 +166,7 @@ module _ (T : Struct) (N : Passed) (O : Value) (S : Result O T) (#core : Name) (
         says ! e $ nothing ! $ move ! (3 ∷ 0 ∷ []) $ join ! $
         frame ! $ feqI ! (List Val) (vptr b o ∷ []) (vptr b o ∷ []) refl $ fjoin3 ! $ nothing ! $
         owned ! (value-row (N .value)) (Is (value-row (N .value))) (value-makes (N .value) 𝓤 H A) n _ n-is $ fjoin ! $ move ! (1 ∷ 0 ∷ []) $ fjoin ! $
-        owned ! (value-row O) (Is (value-row O)) (value-makes O 𝓤 H A) (S .answer r) _ (answer-is r w is) $
+        owned ! (value-row O) (Is (value-row O)) (value-makes O 𝓤 H A) (S .answer r) _ (answer-is S r w is) $
         move ! (1 ∷ 0 ∷ []) $ done !
 
     module _ (C : Calls 𝓤 H) (Λ : Loops 𝓤 H) (fm : FmC 𝓤 H (W .laws) C) (known : Triple 𝓤 (C #core) (Core form 𝓤 H A)) where
@@ -209,11 +201,11 @@ module _ (T : Struct) (N : Passed) (O : Value) (S : Result O T) (#core : Name) (
           -- [what the core returned owns; the struct's cell; the open borrow; obs; auth; _4; …; _3; …; _2; …; _1; …; room for _0; …]
           assigns ! (of-opd ! (load ! (from ! (fld ! refl (stop !))) (look-in ! 7 (sub ! 1 refl (whole !))))) (from !
           (hop ! (look ! 11 refl) (stop !))) (store-raw ! 1 refl (LL.lawful (T .type) (T .laws) 𝓤 H A W .typed (S .state r) _
-          (state-is r w is) .0)) $
+          (state-is S r w is) .0)) $
           assigns ! (of-opd ! (load ! (from ! (fld ! refl (stop !))) (look-in ! 7 (sub ! 0 refl (whole !))))) (from ! (stop !)) (init ! 13 refl
-          (value-lawful O 𝓤 H A W .typed (S .answer r) _ (answer-is r w is) .0)) $
+          (value-lawful O 𝓤 H A W .typed (S .answer r) _ (answer-is S r w is) .0)) $
           -- the borrow is closed at the state that the core returned
-          owned ! (state-row T) (Is (state-row T)) (LL.makes (T .type) (T .plain) 𝓤 H A) (S .state r) _ (state-is r w is) $
+          owned ! (state-row T) (Is (state-row T)) (LL.makes (T .type) (T .plain) 𝓤 H A) (S .state r) _ (state-is S r w is) $
           move ! (2 ∷ 0 ∷ 3 ∷ 4 ∷ 5 ∷ []) $ closes ! tt (state-row T) (S .state r) (LL.vals (T .type) (T .laws) (S .state r)) b o $
           -- [obs; the borrow; the token; what the core returned owns; _4; …; _3; …; _2; …; _1; …; _0; …]
           returns ! (look ! 12 refl) $ forget ! 4 refl $ forget ! 6 refl $ forget ! 8 refl $ forget ! 10 refl $ forget ! 12 refl $

@@ -48,7 +48,7 @@ use denote.Triple.Walked.{says, Stays, stay-ref, stay-none-slice, gave-slice, wa
 use denote.Exit.{yes}
 use denote.Struct.Declared as SD
 use denote.Struct.Struct.{layout}
-use Rattle.lending.proofs.Types.{Struct, Value, Of, Result, state-row, value-row, value-val, value-makes, value-lawful, result-type, result-laws, result-row}
+use Rattle.lending.proofs.Types.{Struct, Value, Of, Result, state-row, value-row, value-val, value-makes, value-lawful, result-type, result-laws, result-row, answer-is, state-is}
 use Rattle.lending.proofs.Form.{Form, IsThin, Core, Theorem, theorem}
 
 module _ (T : Struct) (O : Value) (S : Result O T) (X : RattleType) (one-in : One (X .mir)) (Y : RattleType) (one-out : One (Y .mir)) (#core : Name)
@@ -183,14 +183,6 @@ module _ (T : Struct) (O : Value) (S : Result O T) (X : RattleType) (one-in : On
     abbrev Said : S .D → List (Y .Denot) → Type 0
     Said r zs = Says h (xi .now) (xo .now) (S .answer r) (S .state r) zs
 
-    -- of what the core returns: the relations of its two fields
-    module _ (r : S .D) (w : Val) (is : Is (result-row S) r (w ∷ [])) where
-      answer-is : Is (value-row O) (S .answer r) (value-val O (S .answer r) ∷ [])
-      answer-is = LL.owed (result-type S) (result-laws S) r (w ∷ []) is .0
-
-      state-is : Is (state-row T) (S .state r) (LL.vals (T .type) (T .laws) (S .state r))
-      state-is = LL.owed (result-type S) (result-laws S) r (w ∷ []) is .1 .0
-
     exits : (r : S .D) (w : Val) (zs : List (Y .Denot)) → Is (result-row S) r (w ∷ []) → Said r zs → length zs ≡ length (xo .now)
         → ent 𝓤 (⋆ 𝓤 H A (‵ (fobs γ (state-row T .coded .code (S .state r))) ∷ ‵ (fbor κ
         (Body (mem (state-row T)) b o γ)) ∷ ‵ (flft κ q) ∷ Toks ∷ ‵ In ∷ ‵ (finally Y (xo .name) zs) ∷ [])) (Post (value-val O (S .answer r)))
@@ -203,7 +195,7 @@ module _ (T : Struct) (O : Value) (S : Result O T) (X : RattleType) (one-in : On
         move ! (2 ∷ 3 ∷ []) $ join ! $ frame ! $ feqI ! (List Val) (vptr b o ∷ []) (vptr b o ∷ []) refl $ fjoin3 ! $
         -- [the state's reference; the input; the output's last list]
         nothing ! $ move ! (3 ∷ 0 ∷ []) $ fjoin ! $ move ! (2 ∷ 0 ∷ []) $ fjoin ! $ move ! (1 ∷ 0 ∷ []) $ fjoin ! $
-        owned ! (value-row O) (Is (value-row O)) (value-makes O 𝓤 H A) (S .answer r) _ (answer-is r w is) $
+        owned ! (value-row O) (Is (value-row O)) (value-makes O 𝓤 H A) (S .answer r) _ (answer-is S r w is) $
         move ! (1 ∷ 0 ∷ []) $ done !
 
     module _ (C : Calls 𝓤 H) (Λ : Loops 𝓤 H) (fm : FmC 𝓤 H (W .laws) C) (known : Triple 𝓤 (C #core) (Core form 𝓤 H A)) where
@@ -259,11 +251,11 @@ module _ (T : Struct) (O : Value) (S : Result O T) (X : RattleType) (one-in : On
           -- _5; …; _4; …; _3; …; _2; …; _1; …; room for _0; …]
           assigns ! (of-opd ! (load ! (from ! (fld ! refl (stop !))) (look-in ! 15 (sub ! 1 refl (whole !))))) (from !
           (hop ! (look ! 21 refl) (stop !))) (store-raw ! 5 refl (LL.lawful (T .type) (T .laws) 𝓤 H A W .typed (S .state r) _
-          (state-is r w is) .0)) $
+          (state-is S r w is) .0)) $
           assigns ! (of-opd ! (load ! (from ! (fld ! refl (stop !))) (look-in ! 15 (sub ! 0 refl (whole !))))) (from ! (stop !)) (init ! 23 refl
-          (value-lawful O 𝓤 H A W .typed (S .answer r) _ (answer-is r w is) .0)) $
+          (value-lawful O 𝓤 H A W .typed (S .answer r) _ (answer-is S r w is) .0)) $
           -- the borrow is closed at the state that the core returned
-          owned ! (state-row T) (Is (state-row T)) (LL.makes (T .type) (T .plain) 𝓤 H A) (S .state r) _ (state-is r w is) $
+          owned ! (state-row T) (Is (state-row T)) (LL.makes (T .type) (T .plain) 𝓤 H A) (S .state r) _ (state-is S r w is) $
           move ! (6 ∷ 0 ∷ 7 ∷ 8 ∷ 9 ∷ []) $ closes ! tt (state-row T) (S .state r) (LL.vals (T .type) (T .laws) (S .state r)) b o $
           -- [obs; the borrow; its token; what the core returned owns; the slices' tokens; the last list; true; the input; _7; …; _6; …; _5; …; _4;
           -- …; _3; …; _2; …; _1; …; _0; …]

@@ -151,3 +151,11 @@ module _ {O : Value} {T : Struct} (S : Result O T) where
 
   abbrev pub result-row : RattleType
   result-row = struct.row result-type
+
+  -- of what the core returned: the relations of its two fields
+  module _ (r : S .D) (w : Val) (is : Is result-row r (w ∷ [])) where
+    pub answer-is : Is (value-row O) (S .answer r) (value-vals O (S .answer r))
+    answer-is = struct-laws.owed result-type result-laws r (w ∷ []) is .0
+
+    pub state-is : Is (state-row T) (S .state r) (struct-laws.vals (T .type) (T .laws) (S .state r))
+    state-is = struct-laws.owed result-type result-laws r (w ∷ []) is .1 .0
