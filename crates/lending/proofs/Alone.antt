@@ -16,16 +16,14 @@ use mir.Val.{Val, vunit, vptr}
 use base.Logic.{SProp, ent, sep, emp, via, fst∗, snd∗, exE, id⊢}
 use base.Fml.{GName, Lft, Share, ftrue, flft, fobs, fbor}
 use prog.Memory.{Memory}
-use prog.Model.{Model}
-use prog.Routine.{Env, Routine}
-use prog.Wp.{Heap, Calls, Loops, WpFn, Closed, Tables}
+use prog.Routine.{Routine}
+use prog.Wp.{Heap, Calls, Loops, WpFn}
 use ghost.Atoms.{Atoms, sem}
 use contract.Monad.{Fun, fact}
-use contract.Running.{GhostRules, Running, givenOf, tables, tablesOf}
 use types.Kit.{Given, ‵, raw, _⊛_, some, later, _$_, _∵_, !, qed, by, move, keep, drop, use1, split, join, pick, await, fsplit, fsplit3, fjoin, fjoin3, feqI, suffices, frame, done}
 use types.Run.{look, look-raw, init, store-raw, forget, stop, hop, from, load, unit-lit, of-opd, and-then, no-more, assigns, land, returns, enter, alloc1, alloc0, params1, pass1, pass0, free1, free0}
 use types.SemTy.{Body}
-use sound.WpLaws.{FmC, fmOf, WpFn-mono}
+use sound.WpLaws.{FmC}
 use denote.RattleType.{owns}
 use denote.Laws.{Is, shows}
 use denote.Memory.{mem, pointee}
@@ -34,21 +32,21 @@ use denote.Signature.{Signature, plain}
 use denote.Steps.{opens, closes, peeks, heard, nothing}
 use denote.Struct.Steps.{spelt}
 use denote.Struct.Laws as LL
-use denote.Triple.Statement.{Contract, Triple}
+use denote.Triple.Statement.{Triple}
 use denote.Triple.Call.{calls-at}
-use denote.Triple.Clauses.{Ended, Clauses, ensured, lasts, closing}
+use denote.Triple.Clauses.{Ended, Clauses, ensured, lasts}
 use denote.Triple.Entry.{onEntry}
-use denote.Triple.Spec.{Meets, tripleOf}
-use denote.Triple.Table.{entered, cited}
-use denote.Triple.Walked.{says, Stays, stay-ref, walkOf, AllGo, goes-ref, Walks, ends-at, walked, walk-meets}
+use denote.Triple.Walked.{says, Stays, stay-ref, walkOf, AllGo, goes-ref, Walks, ends-at, walked}
 use denote.Builtin.{unit, RefMutOf}
 use denote.Exit.{yes}
 use denote.Struct.Declared as SD
 use denote.Struct.Struct.{layout}
 use Rattle.lending.proofs.Types.{Struct, state-row}
+use Rattle.lending.proofs.Bare.{signature, ended, stayed, goes, clauses, arg, at, Post, exits, walks}
+use Rattle.lending.proofs.Form.{Form, IsThin, Core, Theorem, theorem}
 
 module _ (T : Struct) (#core : Name) (Says : T .type .D → T .type .D → Type 0) where
-  -- the signature and the contract of the core, and of the call
+  -- the signature and the contract of the core
   abbrev core-signature : Signature
   core-signature = record {
     lifetimes = 0;
@@ -66,30 +64,6 @@ module _ (T : Struct) (#core : Name) (Says : T .type .D → T .type .D → Type 
     requires = λ _. emp 𝓤;
     ensures = λ _ r end. fact 𝓤 (Says (a .0) r);
   }
-
-  abbrev lent-signature : Signature
-  lent-signature = record {
-    lifetimes = 1;
-    outlives = [];
-    params = RefMutOf (0 ∷ []) tt (plain (λ _. state-row T)) (λ _. tt) ∷ [];
-    result = plain (λ _. unit);
-  }
-
-  abbrev lent-ended : Ended
-  lent-ended = record { signature = lent-signature; kept = (yes, tt) }
-
-  abbrev lent-clauses : {M : Type 1} (𝓤 : URA M) → Clauses 𝓤 lent-ended
-  lent-clauses 𝓤 κs a = record {
-    ghost = Unit {0};
-    requires = λ _. emp 𝓤;
-    ensures = λ _ r end. fact 𝓤 (Says (a .0 .now) (now (end .0)));
-  }
-
-  -- that a function's contract is this
-  abbrev pub Thin : ((M : Type 1) (𝓤 : URA M) (H : Heap 𝓤) → Atoms 𝓤 → (Memory → SProp 𝓤) → (Routine → Fun 𝓤) → Clauses 𝓤 lent-ended) → Type 2
-  Thin clauses =
-      (M : Type 1) (𝓤 : URA M) (H : Heap 𝓤) (A : Atoms 𝓤) (at-mem : Memory → SProp 𝓤) (run : Routine → Fun 𝓤) →
-      clauses M 𝓤 H A at-mem run ≡ lent-clauses 𝓤
 
   -- the call's code
   abbrev pub function : Fn
@@ -111,57 +85,41 @@ module _ (T : Struct) (#core : Name) (Says : T .type .D → T .type .D → Type 
         return)));
   }
 
-  abbrev Arg : Type 0
-  Arg = RefT (T .type .D) × Unit {0}
+  abbrev form : Form
+  form = record {
+    core = core-ended;
+    core-clauses = core-clauses;
+    lent = ended T;
+    lent-clauses = clauses T Says;
+    stays = stayed T;
+    #core = #core;
+    function = function;
+  }
 
-  abbrev stayed : Stays (lent-ended .signature .params) (lent-ended .kept)
-  stayed = (stay-ref (0 ∷ []) tt (plain (λ _. state-row T)), tt)
+  -- that a function's contract is this
+  abbrev pub Thin : ((M : Type 1) (𝓤 : URA M) (H : Heap 𝓤) → Atoms 𝓤 → (Memory → SProp 𝓤) → (Routine → Fun 𝓤) → Clauses 𝓤 (ended T)) → Type 2
+  Thin = IsThin form
 
   module _ {M : Type 1} (𝓤 : URA M) (H : Heap 𝓤) (A : Atoms 𝓤) where
-    -- the core's contract, which the proof cites, and the call's
-    abbrev Core : Contract 𝓤
-    Core = tripleOf 𝓤 H A core-signature (closing 𝓤 H A core-ended (core-clauses 𝓤))
-
-    abbrev Lent : Contract 𝓤
-    Lent = tripleOf 𝓤 H A lent-signature (closing 𝓤 H A lent-ended (lent-clauses 𝓤))
-
     -- of what the core ensures, the clause alone
     core-of : (h r : T .type .D) → ent 𝓤 (ensured 𝓤 H A core-ended (core-clauses 𝓤) tt (h, tt) tt r) (fact 𝓤 (Says h r))
     core-of h r = exE 𝓤 _ (λ ws. snd∗ 𝓤 (sem 𝓤 H A (lasts core-ended tt (h, tt) ws)) (fact 𝓤 (Says h r)))
 
   module _ {M : Type 1} (𝓤 : URA M) (H : Heap 𝓤) (A : Atoms 𝓤) (W : Given 𝓤 H A) (κ : Lft) (q : Share) (b o : ℕ) (γ : GName) (h : T .type .D) where
-    abbrev x : Arg
-    x = (record { ptr = (b, o); name = γ; now = h }, tt)
-
-    abbrev at : List Val × Unit {0}
-    at = (vptr b o ∷ [], tt)
-
     -- the state's machine value
     abbrev mach : Val
     mach = LL.val (T .type) (T .laws) h
 
-    abbrev Post : Val → SProp 𝓤
-    Post = walkOf 𝓤 H A lent-ended stayed (lent-clauses 𝓤) .post (((κ, tt), (q, tt), tt, x, at), tt)
-
-    abbrev to-core : Core 𝓤 H A .Ghost
+    abbrev to-core : Core form 𝓤 H A .Ghost
     to-core = ((tt, tt, tt, (h, tt), (mach ∷ [], tt)), tt)
 
-    goes-core : ent 𝓤 (sem 𝓤 H A (state-row T .own h (mach ∷ []))) (Core 𝓤 H A .pre to-core)
+    goes-core : ent 𝓤 (sem 𝓤 H A (state-row T .own h (mach ∷ []))) (Core form 𝓤 H A .pre to-core)
     goes-core = qed W (‵ (state-row T .own h (mach ∷ [])) ∷ []) ∵ nothing ! $ move ! (1 ∷ 0 ∷ []) $ join ! $ nothing ! $ join ! $ frame ! $ done !
 
-    exits : (r : T .type .D) → Says h r
-        → ent 𝓤 (sep 𝓤 (A .obs γ (state-row T .coded .code r)) (sep 𝓤 (A .bor κ (Body (mem (state-row T)) b o γ)) (A .lft κ q))) (Post vunit)
-    exits r e =
-        qed W (‵ (fobs γ (state-row T .coded .code r)) ∷ ‵ (fbor κ (Body (mem (state-row T)) b o γ)) ∷ ‵ (flft κ q) ∷ []) ∵
-        suffices ! _ (ends-at 𝓤 H A lent-ended stayed (lent-clauses 𝓤) W (((κ, tt), (q, tt), tt, x, at), tt) vunit tt (r, tt) (tt, tt)) $
-        says ! e $ nothing ! $ move ! (3 ∷ 0 ∷ []) $ join ! $
-        frame ! $ feqI ! (List Val) (vptr b o ∷ []) (vptr b o ∷ []) refl $ fjoin3 ! $ nothing ! $ move ! (1 ∷ 0 ∷ []) $ fjoin ! $
-        feqI ! (List Val) (vunit ∷ []) (vunit ∷ []) refl $ move ! (1 ∷ 0 ∷ []) $ done !
-
-    module _ (C : Calls 𝓤 H) (Λ : Loops 𝓤 H) (fm : FmC 𝓤 H (W .laws) C) (known : Triple 𝓤 (C #core) (Core 𝓤 H A)) where
-      walk : ent 𝓤 (onEntry 𝓤 H A lent-signature (κ, tt) (q, tt) x at) (WpFn 𝓤 H C Λ function (vptr b o ∷ []) Post)
+    module _ (C : Calls 𝓤 H) (Λ : Loops 𝓤 H) (fm : FmC 𝓤 H (W .laws) C) (known : Triple 𝓤 (C #core) (Core form 𝓤 H A)) where
+      walk : ent 𝓤 (onEntry 𝓤 H A (signature T) (κ, tt) (q, tt) (arg T Says 𝓤 H A κ q b o γ h) (at T Says 𝓤 H A κ q b o γ h)) (WpFn 𝓤 H C Λ function (vptr b o ∷ []) (Post T Says 𝓤 H A κ q b o γ h))
       walk =
-          qed W ((‵ (flft κ q) ⊛ ‵ ftrue) ∷ ‵ (owns (MutRef (named 0) κ (state-row T) ∷ []) x at) ∷ []) ∵ split ! $ move ! (2 ∷ []) $ fsplit ! $
+          qed W ((‵ (flft κ q) ⊛ ‵ ftrue) ∷ ‵ (owns (MutRef (named 0) κ (state-row T) ∷ []) (arg T Says 𝓤 H A κ q b o γ h) (at T Says 𝓤 H A κ q b o γ h)) ∷ []) ∵ split ! $ move ! (2 ∷ []) $ fsplit ! $
           fsplit3 ! $ drop ! $ move ! (0 ∷ 1 ∷ 3 ∷ []) $
           -- [obs; the borrow; the token; true; true]
           enter ! C Λ function (vptr b o ∷ []) _ $
@@ -175,8 +133,8 @@ module _ (T : Struct) (#core : Name) (Says : T .type .D → T .type .D → Type 
           assigns ! (of-opd ! (load ! (from ! (hop ! (look ! 9 refl) (stop !))) (look-raw ! 0 refl))) (from ! (stop !)) (init ! 5 refl
           (LL.lawful (T .type) (T .laws) 𝓤 H A W .typed h _ was .0)) $
           -- the core is called: what the state owns goes to it
-          move ! (1 ∷ []) $ use1 W (raw (Core 𝓤 H A .pre to-core)) goes-core $
-          calls-at ! fm (Core 𝓤 H A) known to-core (and-then ! (load ! (from ! (stop !)) (look ! 5 refl)) (no-more !)) (λ w.
+          move ! (1 ∷ []) $ use1 W (raw (Core form 𝓤 H A .pre to-core)) goes-core $
+          calls-at ! fm (Core form 𝓤 H A) known to-core (and-then ! (load ! (from ! (stop !)) (look ! 5 refl)) (no-more !)) (λ w.
           use1 W (later (some (λ (r : T .type .D). (‵ ftrue ⊛ ‵ (state-row T .own r (w ∷ []))) ⊛ raw
           (ensured 𝓤 H A core-ended (core-clauses 𝓤) tt (h, tt) tt r)))) (id⊢ 𝓤 _) $ await ! tt $ pick ! (λ r.
           split ! $ move ! (1 ∷ []) $ use1 W (raw (fact 𝓤 (Says h r))) (core-of 𝓤 H A h r) $ heard ! (Says h r) (λ e. split ! $ drop ! $
@@ -191,31 +149,8 @@ module _ (T : Struct) (#core : Name) (Says : T .type .D → T .type .D → Type 
           -- [obs; the borrow; the token; _3; …; _2; …; _1; …; _0; …]
           returns ! (look ! 9 refl) $ forget ! 3 refl $ forget ! 5 refl $ forget ! 7 refl $ forget ! 9 refl $ move ! (9 ∷ 10 ∷ []) $ free1 ! $
           move ! (7 ∷ 8 ∷ []) $ free1 ! $ move ! (5 ∷ 6 ∷ []) $ free1 ! $ move ! (3 ∷ 4 ∷ []) $ free1 ! $ free0 ! $
-          keep ! (0 ∷ 1 ∷ 2 ∷ []) $ by ! (exits r e)))))))))))
+          keep ! (0 ∷ 1 ∷ 2 ∷ []) $ by ! (exits T Says 𝓤 H A κ q b o γ h W r e)))))))))))
 
-  module _ {M : Type 1} (𝓤 : URA M) (H : Heap 𝓤) (A : Atoms 𝓤) (W : Given 𝓤 H A) where
-    lent-walks : (C : Calls 𝓤 H) (Λ : Loops 𝓤 H) → FmC 𝓤 H (W .laws) C → Triple 𝓤 (C #core) (Core 𝓤 H A)
-        → Walks 𝓤 H A lent-ended stayed (WpFn 𝓤 H C Λ function) (lent-clauses 𝓤)
-    lent-walks C Λ fm known = walked 𝓤 H A lent-ended stayed (lent-clauses 𝓤) (WpFn 𝓤 H C Λ function) (λ κs. (ptr-vals, tt)) (λ κs.
-        (mut-tells (named 0) (κs .0) (state-row T), tt))
-        (λ κs qs bounds a _ _. via 𝓤 _ (fst∗ 𝓤 _ (emp 𝓤))
-        (walk 𝓤 H A W (κs .0) (qs .0) (a .0 .ptr .0) (a .0 .ptr .1) (a .0 .name) (a .0 .now) C Λ fm known))
-
-    goes : AllGo 𝓤 H A W 1 (lent-signature .params) (lent-ended .kept) stayed
-    goes = (goes-ref 𝓤 H A W 1 0 tt (plain (λ _. state-row T)), tt)
-
-  lent-meets : {M : Type 1} (𝓤 : URA M) (H : Heap 𝓤) (A : Atoms 𝓤) → Given 𝓤 H A → (𝓣 : Tables 𝓤 H) → Triple 𝓤 (𝓣 .C #core) (Core 𝓤 H A)
-      → Meets 𝓤 H A lent-signature (WpFn 𝓤 H (𝓣 .C) (𝓣 .Λ) function) (closing 𝓤 H A lent-ended (lent-clauses 𝓤))
-  lent-meets 𝓤 H A W 𝓣 known = walk-meets 𝓤 H A lent-ended stayed W (goes 𝓤 H A W) (lent-clauses 𝓤) (WpFn 𝓤 H (𝓣 .C) (𝓣 .Λ) function)
-      (WpFn-mono 𝓤 H (W .laws) 𝓣 function)
-      (lent-walks 𝓤 H A W (𝓣 .C) (𝓣 .Λ) (fmOf 𝓤 H (W .laws) 𝓣) known)
-
-  -- the call's theorem, of the core's: in any table of routines where the one stands by its code, and the other by its own
-  pub lent-call : {M : Type 1} (𝓤 : URA M) (H : Heap 𝓤) (𝓜 : Model 𝓤 H) (𝓖 : GhostRules 𝓤 H) (𝓡 : Running 𝓤 H 𝓜) (γ : Env) (#lent : Name)
-      (r : Routine)
-      → Closed 𝓤 H (tables 𝓤 H 𝓜 𝓡 γ .C) (tables 𝓤 H 𝓜 𝓡 γ .Λ) #lent function → γ #core ≡ r → Triple 𝓤 (𝓡 .run r) (Core 𝓤 H (𝓖 .A))
-      → Triple 𝓤 (tables 𝓤 H 𝓜 𝓡 γ .C #lent) (Lent 𝓤 H (𝓖 .A))
-  unfolding tablesOf
-  lent-call 𝓤 H 𝓜 𝓖 𝓡 γ #lent r closed is-core met =
-      entered 𝓤 H (Lent 𝓤 H (𝓖 .A)) (tables 𝓤 H 𝓜 𝓡 γ .C) (tables 𝓤 H 𝓜 𝓡 γ .Λ) #lent function closed
-      (lent-meets 𝓤 H (𝓖 .A) (givenOf 𝓤 H 𝓜 𝓖) (tablesOf 𝓤 H 𝓜 (tables 𝓤 H 𝓜 𝓡 γ)) (cited 𝓤 H (Core 𝓤 H (𝓖 .A)) 𝓜 𝓡 γ #core r is-core met))
+  pub lent-call : {M : Type 1} (𝓤 : URA M) → Theorem form 𝓤
+  lent-call = theorem form (goes T) (λ M 𝓤 H A W C Λ fm known. walks T Says 𝓤 H A (WpFn 𝓤 H C Λ function)
+      (λ κ q b o γ h. walk 𝓤 H A W κ q b o γ h C Λ fm known))

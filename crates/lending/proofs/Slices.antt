@@ -21,17 +21,15 @@ use mir.Val.{Val, vptr}
 use base.Logic.{SProp, ent, sep, emp, via, fst∗, id⊢}
 use base.Fml.{GName, Lft, Share, Fml, ftrue, flft, fobs, fbor, fat}
 use prog.Memory.{Memory}
-use prog.Model.{Model}
-use prog.Routine.{Env, Routine}
-use prog.Wp.{Heap, Calls, Loops, WpFn, Closed, Tables}
+use prog.Routine.{Routine}
+use prog.Wp.{Heap, Calls, Loops, WpFn}
 use ghost.Atoms.{Atoms, sem}
 use contract.Monad.{Fun, fact}
-use contract.Running.{GhostRules, Running, givenOf, tables, tablesOf}
 use types.Kit.{Given, Item, ‵, raw, _⊛_, ⋆, some, later, _$_, _∵_, !, qed, by, move, keep, drop, rewrite, use1, use2, split, join, pick, await, fsplit, fsplit3, fjoin, fjoin3, feqI, feqL, suffices, frame, done}
 use types.Part.{agg, whole, sub, look-in}
 use types.Run.{look, look-raw, init, store-raw, forget, stop, hop, fld, from, load, addr, of-opd, and-then, no-more, assigns, land, returns, enter, alloc1, alloc0, params1, pass1, pass0, free1, free0}
 use types.SemTy.{Body}
-use sound.WpLaws.{FmC, fmOf, WpFn-mono}
+use sound.WpLaws.{FmC}
 use denote.RattleType.{RattleType, owns}
 use denote.Laws.{Is, shows}
 use denote.Memory.{mem, pointee}
@@ -40,25 +38,21 @@ use denote.Ref.{RefT, MutRef, now, ptr-vals, mut-tells}
 use denote.Signature.{Signature, plain}
 use denote.Slice.{sliceVal, sliceTy, ShrSlice, MutSlice, Room, finally, slice-vals, shr-slice-tells, shr-slice-lawful, shr-slice-copy, mut-slice-tells}
 use denote.Steps.{opens, closes, owned, peeks, heard, nothing, only}
-use denote.Enum.Laws as EL
 use denote.Struct.Steps.{spelt}
 use denote.Struct.Laws as LL
-use denote.Triple.Statement.{Contract, Triple}
+use denote.Triple.Statement.{Triple}
 use denote.Triple.Call.{calls-at}
-use denote.Triple.Clauses.{Ended, Clauses, Lasts, ensured, lasts, closing}
+use denote.Triple.Clauses.{Ended, Clauses, Lasts, ensured, lasts}
 use denote.Triple.Entry.{onEntry}
-use denote.Triple.Spec.{Meets, tripleOf}
-use denote.Triple.Table.{entered, cited}
-use denote.Triple.Walked.{says, Stays, stay-ref, stay-none-slice, gave-slice, walkOf, AllGo, goes-ref, goes-none-slice, goes-gave-slice, Walks, ends-at, walked, walk-meets}
+use denote.Triple.Walked.{says, Stays, stay-ref, stay-none-slice, gave-slice, walkOf, AllGo, goes-ref, goes-none-slice, goes-gave-slice, Walks, ends-at, walked}
 use denote.Exit.{yes}
 use denote.Struct.Declared as SD
 use denote.Struct.Struct.{layout}
-use denote.Enum.Declared as ED
-use denote.Enum.Enum.{layout as enum-layout}
-use Rattle.lending.proofs.Types.{Struct, Enum, Result, state-row, answer-row, result-type, result-laws, result-row}
+use Rattle.lending.proofs.Types.{Struct, Value, Of, Result, state-row, value-row, value-val, value-makes, value-lawful, result-type, result-laws, result-row, answer-is, state-is}
+use Rattle.lending.proofs.Form.{Form, IsThin, Core, Theorem, theorem}
 
-module _ (T : Struct) (O : Enum) (S : Result O T) (X : RattleType) (one-in : One (X .mir)) (Y : RattleType) (one-out : One (Y .mir)) (#core : Name)
-    (Says : T .type .D → List (X .Denot) → List (Y .Denot) → O .type .D → T .type .D → List (Y .Denot) → Type 0) where
+module _ (T : Struct) (O : Value) (S : Result O T) (X : RattleType) (one-in : One (X .mir)) (Y : RattleType) (one-out : One (Y .mir)) (#core : Name)
+    (Says : T .type .D → List (X .Denot) → List (Y .Denot) → Of O → T .type .D → List (Y .Denot) → Type 0) where
   -- the signature and the contract of the core, and of the call
   abbrev core-signature : Signature
   core-signature = record {
@@ -85,7 +79,7 @@ module _ (T : Struct) (O : Enum) (S : Result O T) (X : RattleType) (one-in : One
     outlives = [];
     params = RefMutOf (0 ∷ []) tt (plain (λ _. state-row T)) (λ _. tt) ∷ SliceRefOf (1 ∷ []) tt (plain (λ _. X)) (λ _. one-in) ∷ SliceRefMutOf
         (2 ∷ []) tt (plain (λ _. Y)) (λ _. one-out) ∷ [];
-    result = plain (λ _. answer-row O);
+    result = plain (λ _. value-row O);
   }
 
   abbrev lent-ended : Ended
@@ -98,12 +92,6 @@ module _ (T : Struct) (O : Enum) (S : Result O T) (X : RattleType) (one-in : One
     ensures = λ _ r end. fact 𝓤 (Says (a .0 .now) (a .1 .0 .now) (a .1 .1 .0 .now) r (now (end .0)) (now (end .1 .1 .0)));
   }
 
-  -- that a function's contract is this
-  abbrev pub Thin : ((M : Type 1) (𝓤 : URA M) (H : Heap 𝓤) → Atoms 𝓤 → (Memory → SProp 𝓤) → (Routine → Fun 𝓤) → Clauses 𝓤 lent-ended) → Type 2
-  Thin clauses =
-      (M : Type 1) (𝓤 : URA M) (H : Heap 𝓤) (A : Atoms 𝓤) (at-mem : Memory → SProp 𝓤) (run : Routine → Fun 𝓤) →
-      clauses M 𝓤 H A at-mem run ≡ lent-clauses 𝓤
-
   -- the call's code
   abbrev pub function : Fn
   function = record {
@@ -111,7 +99,7 @@ module _ (T : Struct) (O : Enum) (S : Result O T) (X : RattleType) (one-in : One
     outlives = [];
     params = 3;
     locals =
-        local (enum-layout (ED.shape (O .type))) valueLocal
+        local (O .mir) valueLocal
         ∷ local (tyRef (named 0) mut (pointee (state-row T .written))) valueLocal
         ∷ local (sliceTy (tyRef (named 1) imm (pointee (X .written)))) valueLocal
         ∷ local (sliceTy (tyRef (named 2) mut (pointee (Y .written)))) valueLocal
@@ -139,12 +127,20 @@ module _ (T : Struct) (O : Enum) (S : Result O T) (X : RattleType) (one-in : One
     (stay-none-slice (1 ∷ []) tt (plain (λ _. X)) yes, (gave-slice (2 ∷ []) tt (plain (λ _. Y)), tt)),
   )
 
-  -- the core's contract, which the proof cites, and the call's
-  abbrev Core : {M : Type 1} (𝓤 : URA M) (H : Heap 𝓤) (A : Atoms 𝓤) → Contract 𝓤
-  Core 𝓤 H A = tripleOf 𝓤 H A core-signature (closing 𝓤 H A core-ended (core-clauses 𝓤))
+  abbrev form : Form
+  form = record {
+    core = core-ended;
+    core-clauses = core-clauses;
+    lent = lent-ended;
+    lent-clauses = lent-clauses;
+    stays = stayed;
+    #core = #core;
+    function = function;
+  }
 
-  abbrev Lent : {M : Type 1} (𝓤 : URA M) (H : Heap 𝓤) (A : Atoms 𝓤) → Contract 𝓤
-  Lent 𝓤 H A = tripleOf 𝓤 H A lent-signature (closing 𝓤 H A lent-ended (lent-clauses 𝓤))
+  -- that a function's contract is this
+  abbrev pub Thin : ((M : Type 1) (𝓤 : URA M) (H : Heap 𝓤) → Atoms 𝓤 → (Memory → SProp 𝓤) → (Routine → Fun 𝓤) → Clauses 𝓤 lent-ended) → Type 2
+  Thin = IsThin form
 
   module _ {M : Type 1} (𝓤 : URA M) (H : Heap 𝓤) (A : Atoms 𝓤) (W : Given 𝓤 H A) (κ κ₁ κ₂ : Lft) (q q₁ q₂ : Share) (b o : ℕ) (γ : GName)
       (h : T .type .D) (xi : RefT (List (X .Denot))) (xo : RefT (List (Y .Denot))) where
@@ -174,11 +170,11 @@ module _ (T : Struct) (O : Enum) (S : Result O T) (X : RattleType) (one-in : One
     abbrev Post : Val → SProp 𝓤
     Post = walkOf 𝓤 H A lent-ended stayed (lent-clauses 𝓤) .post (((κ, (κ₁, (κ₂, tt))), (q, (q₁, (q₂, tt))), tt, x, at), tt)
 
-    abbrev to-core : Core 𝓤 H A .Ghost
+    abbrev to-core : Core form 𝓤 H A .Ghost
     to-core = (((κ₁, (κ₂, tt)), (q₁, (q₂, tt)), tt, (h, (xi, (xo, tt))), (mach ∷ [], (vi ∷ [], (vo ∷ [], tt)))), tt)
 
     goes-core : ent 𝓤 (⋆ 𝓤 H A (Toks ∷ ‵ (owns (state-row T ∷ ShrSlice (named 0) κ₁ X ∷ MutSlice (named 1) κ₂ Y ∷ []) (h, (xi, (xo, tt)))
-        (mach ∷ [], (vi ∷ [], (vo ∷ [], tt)))) ∷ [])) (Core 𝓤 H A .pre to-core)
+        (mach ∷ [], (vi ∷ [], (vo ∷ [], tt)))) ∷ [])) (Core form 𝓤 H A .pre to-core)
     goes-core =
         qed W (Toks ∷ ‵ (owns (state-row T ∷ ShrSlice (named 0) κ₁ X ∷ MutSlice (named 1) κ₂ Y ∷ []) (h, (xi, (xo, tt)))
         (mach ∷ [], (vi ∷ [], (vo ∷ [], tt)))) ∷ []) ∵ join ! $ frame ! $ done !
@@ -187,31 +183,22 @@ module _ (T : Struct) (O : Enum) (S : Result O T) (X : RattleType) (one-in : One
     abbrev Said : S .D → List (Y .Denot) → Type 0
     Said r zs = Says h (xi .now) (xo .now) (S .answer r) (S .state r) zs
 
-    -- of what the core returns: the relations of its two fields
-    module _ (r : S .D) (w : Val) (is : Is (result-row S) r (w ∷ [])) where
-      answer-is : Is (answer-row O) (S .answer r) (EL.vals (O .type) (O .laws) (S .answer r))
-      answer-is = LL.owed (result-type S) (result-laws S) r (w ∷ []) is .0
-
-      state-is : Is (state-row T) (S .state r) (LL.vals (T .type) (T .laws) (S .state r))
-      state-is = LL.owed (result-type S) (result-laws S) r (w ∷ []) is .1 .0
-
     exits : (r : S .D) (w : Val) (zs : List (Y .Denot)) → Is (result-row S) r (w ∷ []) → Said r zs → length zs ≡ length (xo .now)
         → ent 𝓤 (⋆ 𝓤 H A (‵ (fobs γ (state-row T .coded .code (S .state r))) ∷ ‵ (fbor κ
-        (Body (mem (state-row T)) b o γ)) ∷ ‵ (flft κ q) ∷ Toks ∷ ‵ In ∷ ‵ (finally Y (xo .name) zs) ∷ [])) (Post (EL.val (O .type) (O .laws)
-        (S .answer r)))
+        (Body (mem (state-row T)) b o γ)) ∷ ‵ (flft κ q) ∷ Toks ∷ ‵ In ∷ ‵ (finally Y (xo .name) zs) ∷ [])) (Post (value-val O (S .answer r)))
     exits r w zs is e l =
         qed W (‵ (fobs γ (state-row T .coded .code (S .state r))) ∷ ‵ (fbor κ
         (Body (mem (state-row T)) b o γ)) ∷ ‵ (flft κ q) ∷ Toks ∷ ‵ In ∷ ‵ (finally Y (xo .name) zs) ∷ []) ∵
         suffices ! _ (ends-at 𝓤 H A lent-ended stayed (lent-clauses 𝓤) W (((κ, (κ₁, (κ₂, tt))), (q, (q₁, (q₂, tt))), tt, x, at), tt)
-        (EL.val (O .type) (O .laws) (S .answer r)) (S .answer r) (S .state r, (tt, (zs, tt))) (tt, (tt, (l, tt)))) $
+        (value-val O (S .answer r)) (S .answer r) (S .state r, (tt, (zs, tt))) (tt, (tt, (l, tt)))) $
         says ! e $
         move ! (2 ∷ 3 ∷ []) $ join ! $ frame ! $ feqI ! (List Val) (vptr b o ∷ []) (vptr b o ∷ []) refl $ fjoin3 ! $
         -- [the state's reference; the input; the output's last list]
         nothing ! $ move ! (3 ∷ 0 ∷ []) $ fjoin ! $ move ! (2 ∷ 0 ∷ []) $ fjoin ! $ move ! (1 ∷ 0 ∷ []) $ fjoin ! $
-        owned ! (answer-row O) (Is (answer-row O)) (EL.makes (O .type) (O .plain) 𝓤 H A) (S .answer r) _ (answer-is r w is) $
+        owned ! (value-row O) (Is (value-row O)) (value-makes O 𝓤 H A) (S .answer r) _ (answer-is S r w is) $
         move ! (1 ∷ 0 ∷ []) $ done !
 
-    module _ (C : Calls 𝓤 H) (Λ : Loops 𝓤 H) (fm : FmC 𝓤 H (W .laws) C) (known : Triple 𝓤 (C #core) (Core 𝓤 H A)) where
+    module _ (C : Calls 𝓤 H) (Λ : Loops 𝓤 H) (fm : FmC 𝓤 H (W .laws) C) (known : Triple 𝓤 (C #core) (Core form 𝓤 H A)) where
       walk : Is (ShrSlice (named 1) κ₁ X) xi (vi ∷ []) → Room Y (length (xo .now))
           → ent 𝓤 (onEntry 𝓤 H A lent-signature (κ, (κ₁, (κ₂, tt))) (q, (q₁, (q₂, tt))) x at) (WpFn 𝓤 H C Λ function (vptr b o ∷ vi ∷ vo ∷ []) Post)
       walk in-is room =
@@ -242,10 +229,10 @@ module _ (T : Struct) (O : Enum) (S : Result O T) (X : RattleType) (one-in : One
           -- what the core is passed is put together, with a copy of the input
           move ! (21 ∷ []) $ fsplit ! $ use1 W (‵ In ⊛ ‵ In) (shr-slice-copy 𝓤 H A W (named 1) κ₁ X .twice xi (vi ∷ [])) $ split ! $
           -- [the input; the input; the output; the struct's cell; what the state owns; the open borrow; obs; auth; _7; …]
-          move ! (0 ∷ 2 ∷ []) $ fjoin ! $ move ! (3 ∷ 0 ∷ []) $ fjoin ! $ move ! (22 ∷ 0 ∷ []) $ use2 W (raw (Core 𝓤 H A .pre to-core)) goes-core $
+          move ! (0 ∷ 2 ∷ []) $ fjoin ! $ move ! (3 ∷ 0 ∷ []) $ fjoin ! $ move ! (22 ∷ 0 ∷ []) $ use2 W (raw (Core form 𝓤 H A .pre to-core)) goes-core $
           -- [what the core asks; the input; the struct's cell; the open borrow; obs; auth; _7; …; _6; …; _5; …; _4; …; _3; …; _2; …; _1; …; room
           -- for _0; …]
-          calls-at ! fm (Core 𝓤 H A) known to-core (and-then ! (load ! (from ! (stop !)) (look ! 10 refl))
+          calls-at ! fm (Core form 𝓤 H A) known to-core (and-then ! (load ! (from ! (stop !)) (look ! 10 refl))
           (and-then ! (load ! (from ! (stop !)) (look ! 16 refl)) (and-then ! (load ! (from ! (stop !)) (look ! 6 refl)) (no-more !)))) (λ w.
           use1 W (later (some (λ (r : S .D). (Toks ⊛ ‵ (result-row S .own r (w ∷ []))) ⊛ raw
           (ensured 𝓤 H A core-ended (core-clauses 𝓤) (κ₁, (κ₂, tt)) (h, (xi, (xo, tt))) tt r)))) (id⊢ 𝓤 _) $ await ! tt $ pick ! (λ r.
@@ -264,11 +251,11 @@ module _ (T : Struct) (O : Enum) (S : Result O T) (X : RattleType) (one-in : One
           -- _5; …; _4; …; _3; …; _2; …; _1; …; room for _0; …]
           assigns ! (of-opd ! (load ! (from ! (fld ! refl (stop !))) (look-in ! 15 (sub ! 1 refl (whole !))))) (from !
           (hop ! (look ! 21 refl) (stop !))) (store-raw ! 5 refl (LL.lawful (T .type) (T .laws) 𝓤 H A W .typed (S .state r) _
-          (state-is r w is) .0)) $
+          (state-is S r w is) .0)) $
           assigns ! (of-opd ! (load ! (from ! (fld ! refl (stop !))) (look-in ! 15 (sub ! 0 refl (whole !))))) (from ! (stop !)) (init ! 23 refl
-          (EL.lawful (O .type) (O .laws) 𝓤 H A W (O .few) .typed (S .answer r) _ (answer-is r w is) .0)) $
+          (value-lawful O 𝓤 H A W .typed (S .answer r) _ (answer-is S r w is) .0)) $
           -- the borrow is closed at the state that the core returned
-          owned ! (state-row T) (Is (state-row T)) (LL.makes (T .type) (T .plain) 𝓤 H A) (S .state r) _ (state-is r w is) $
+          owned ! (state-row T) (Is (state-row T)) (LL.makes (T .type) (T .plain) 𝓤 H A) (S .state r) _ (state-is S r w is) $
           move ! (6 ∷ 0 ∷ 7 ∷ 8 ∷ 9 ∷ []) $ closes ! tt (state-row T) (S .state r) (LL.vals (T .type) (T .laws) (S .state r)) b o $
           -- [obs; the borrow; its token; what the core returned owns; the slices' tokens; the last list; true; the input; _7; …; _6; …; _5; …; _4;
           -- …; _3; …; _2; …; _1; …; _0; …]
@@ -280,7 +267,7 @@ module _ (T : Struct) (O : Enum) (S : Result O T) (X : RattleType) (one-in : One
           keep ! (0 ∷ 1 ∷ 2 ∷ 4 ∷ 7 ∷ 5 ∷ []) $ by ! (exits r w (zs .1 .1 .0) is e l)))))))))))))))))
 
   module _ {M : Type 1} (𝓤 : URA M) (H : Heap 𝓤) (A : Atoms 𝓤) (W : Given 𝓤 H A) where
-    lent-walks : (C : Calls 𝓤 H) (Λ : Loops 𝓤 H) → FmC 𝓤 H (W .laws) C → Triple 𝓤 (C #core) (Core 𝓤 H A)
+    lent-walks : (C : Calls 𝓤 H) (Λ : Loops 𝓤 H) → FmC 𝓤 H (W .laws) C → Triple 𝓤 (C #core) (Core form 𝓤 H A)
         → Walks 𝓤 H A lent-ended stayed (WpFn 𝓤 H C Λ function) (lent-clauses 𝓤)
     lent-walks C Λ fm known = walked 𝓤 H A lent-ended stayed (lent-clauses 𝓤) (WpFn 𝓤 H C Λ function) (λ κs.
         (ptr-vals, (slice-vals, (slice-vals, tt))))
@@ -298,18 +285,5 @@ module _ (T : Struct) (O : Enum) (S : Result O T) (X : RattleType) (one-in : One
       (goes-none-slice 𝓤 H A W 3 (1 ∷ []) tt (plain (λ _. X)) yes, (goes-gave-slice 𝓤 H A W 3 2 tt (plain (λ _. Y)), tt)),
     )
 
-  lent-meets : {M : Type 1} (𝓤 : URA M) (H : Heap 𝓤) (A : Atoms 𝓤) → Given 𝓤 H A → (𝓣 : Tables 𝓤 H) → Triple 𝓤 (𝓣 .C #core) (Core 𝓤 H A)
-      → Meets 𝓤 H A lent-signature (WpFn 𝓤 H (𝓣 .C) (𝓣 .Λ) function) (closing 𝓤 H A lent-ended (lent-clauses 𝓤))
-  lent-meets 𝓤 H A W 𝓣 known = walk-meets 𝓤 H A lent-ended stayed W (goes 𝓤 H A W) (lent-clauses 𝓤) (WpFn 𝓤 H (𝓣 .C) (𝓣 .Λ) function)
-      (WpFn-mono 𝓤 H (W .laws) 𝓣 function)
-      (lent-walks 𝓤 H A W (𝓣 .C) (𝓣 .Λ) (fmOf 𝓤 H (W .laws) 𝓣) known)
-
-  -- the call's theorem, of the core's: in any table of routines where the one stands by its code, and the other by its own
-  pub lent-call : {M : Type 1} (𝓤 : URA M) (H : Heap 𝓤) (𝓜 : Model 𝓤 H) (𝓖 : GhostRules 𝓤 H) (𝓡 : Running 𝓤 H 𝓜) (γ : Env) (#lent : Name)
-      (r : Routine)
-      → Closed 𝓤 H (tables 𝓤 H 𝓜 𝓡 γ .C) (tables 𝓤 H 𝓜 𝓡 γ .Λ) #lent function → γ #core ≡ r → Triple 𝓤 (𝓡 .run r) (Core 𝓤 H (𝓖 .A))
-      → Triple 𝓤 (tables 𝓤 H 𝓜 𝓡 γ .C #lent) (Lent 𝓤 H (𝓖 .A))
-  unfolding tablesOf
-  lent-call 𝓤 H 𝓜 𝓖 𝓡 γ #lent r closed is-core met =
-      entered 𝓤 H (Lent 𝓤 H (𝓖 .A)) (tables 𝓤 H 𝓜 𝓡 γ .C) (tables 𝓤 H 𝓜 𝓡 γ .Λ) #lent function closed
-      (lent-meets 𝓤 H (𝓖 .A) (givenOf 𝓤 H 𝓜 𝓖) (tablesOf 𝓤 H 𝓜 (tables 𝓤 H 𝓜 𝓡 γ)) (cited 𝓤 H (Core 𝓤 H (𝓖 .A)) 𝓜 𝓡 γ #core r is-core met))
+  pub lent-call : {M : Type 1} (𝓤 : URA M) → Theorem form 𝓤
+  lent-call = theorem form (λ M 𝓤 H A W. goes 𝓤 H A W) (λ M 𝓤 H A W. lent-walks 𝓤 H A W)

@@ -1,6 +1,6 @@
 -- The state, answers and results of the calls on a lent decoder, as the proofs of `lending` take them.
 -- Assumes nothing.
-use Rattle.lending.proofs.Types.{Struct, Enum, Result}
+use Rattle.lending.proofs.Types.{Struct, Value, Result, of-enum}
 use Rattle.sbc_decoder.specs.declared.DecodeResult.{DecodeResult}
 use Rattle.sbc_decoder.specs.declared.SeekResult.{SeekResult}
 use Rattle.sbc_decoder.proofs.SbcDecoder as d
@@ -15,11 +15,11 @@ use Rattle.sbc_decoder.proofs.SeekResult as seek
 abbrev pub decoder : Struct
 decoder = record { type = d.the-type; laws = d′.the-laws; lowers = d′.lowers; plain = d′.the-plain }
 
-abbrev pub coded : Enum
-coded = record { type = c.the-type; laws = c′.the-laws; few = tt; lowers = c′.lowers; plain = c′.the-plain }
+abbrev pub coded : Value
+coded = of-enum (record { type = c.the-type; laws = c′.the-laws; few = tt; lowers = c′.lowers; plain = c′.the-plain })
 
-abbrev pub seek-outcome : Enum
-seek-outcome = record { type = s.the-type; laws = s′.the-laws; few = tt; lowers = s′.lowers; plain = s′.the-plain }
+abbrev pub seek-outcome : Value
+seek-outcome = of-enum (record { type = s.the-type; laws = s′.the-laws; few = tt; lowers = s′.lowers; plain = s′.the-plain })
 
 abbrev pub decode-result : Result coded decoder
 decode-result =

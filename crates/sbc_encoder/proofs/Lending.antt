@@ -1,6 +1,6 @@
 -- The state, answers and results of the calls on a lent encoder, as the proofs of `lending` take them.
 -- Assumes nothing.
-use Rattle.lending.proofs.Types.{Struct, Enum, Result}
+use Rattle.lending.proofs.Types.{Struct, Value, Result, of-enum}
 use Rattle.sbc_encoder.specs.declared.EncodeResult.{EncodeResult}
 use Rattle.sbc_encoder.proofs.SbcEncoder as e
 use Rattle.sbc_encoder.proofs.SbcEncoder.Laws as e′
@@ -11,8 +11,8 @@ use Rattle.sbc_encoder.proofs.EncodeResult as encode
 abbrev pub encoder : Struct
 encoder = record { type = e.the-type; laws = e′.the-laws; lowers = e′.lowers; plain = e′.the-plain }
 
-abbrev pub coded : Enum
-coded = record { type = c.the-type; laws = c′.the-laws; few = tt; lowers = c′.lowers; plain = c′.the-plain }
+abbrev pub coded : Value
+coded = of-enum (record { type = c.the-type; laws = c′.the-laws; few = tt; lowers = c′.lowers; plain = c′.the-plain })
 
 abbrev pub encode-result : Result coded encoder
 encode-result =

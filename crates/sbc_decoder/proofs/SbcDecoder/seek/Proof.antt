@@ -1,8 +1,9 @@
--- `SbcDecoder::seek` meets its contract: it is a thin call over `sought`, which `lending`'s Number is of.
+-- `SbcDecoder::seek` meets its contract: it is a thin call over `sought`, which `lending`'s Passed is of.
 -- Assumes nothing.
 use Prim.Native.Nat.{ℕ}
 use mathlib.Core.Path.{_≡_, refl}
-use Rattle.lending.proofs.Number.{Thin, function, lent-call}
+use Rattle.lending.proofs.Types.{passed-u64}
+use Rattle.lending.proofs.Passed.{Thin, function, lent-call}
 use Rattle.sbc_decoder.specs.Seek.{toldSought, seek}
 use Rattle.sbc_decoder.specs.declared.SbcDecoder.{SbcDecoder}
 use Rattle.sbc_decoder.specs.declared.SeekOutcome.{SeekOutcome}
@@ -19,13 +20,13 @@ abbrev Says : SbcDecoder → ℕ → SeekOutcome → SbcDecoder → Type 0
 Says d position answer next = toldSought (record { outcome = answer; decoder = next }) ≡ seek d position
 
 -- its contract and its code are those of a thin call
-contract-is : Thin decoder seek-outcome sought #core Says (λ M 𝓤 H. clauses 𝓤 H)
+contract-is : Thin decoder passed-u64 seek-outcome sought #core Says (λ M 𝓤 H. clauses 𝓤 H)
 contract-is M 𝓤 H A at-mem run = refl
 
-code-is : code.function ≡ function decoder seek-outcome sought #core Says
+code-is : code.function ≡ function decoder passed-u64 seek-outcome sought #core Says
 code-is = refl
 
 pub seek-spec : {M : Type 1} → statement M
 unfolding code.routine
 seek-spec 𝓤 H 𝓜 𝓖 𝓡 =
-    lent-call decoder seek-outcome sought #core Says 𝓤 H 𝓜 𝓖 𝓡 code.env #lent routine (code.unfolded 𝓤 H 𝓜 𝓡) refl (met 𝓤 H 𝓜 𝓖 𝓡)
+    lent-call decoder passed-u64 seek-outcome sought #core Says 𝓤 H 𝓜 𝓖 𝓡 code.env #lent routine (code.unfolded 𝓤 H 𝓜 𝓡) refl (met 𝓤 H 𝓜 𝓖 𝓡)
