@@ -2,6 +2,7 @@
 use Prim.Native.Nat.{ℕ, _+_, _/_, min}
 use mathlib.Core.Bool.{Bool, _&&_}
 use lib.Dec.{eqb}
+use Rattle.laws.specs.Choice.{if_then_else_}
 use Rattle.laws.specs.Answers.{Told, gives, refuses}
 use Rattle.sbc_parameters.specs.Errors.{errorNumber}
 use Rattle.codec.specs.declared.Progress.{Progress}
@@ -20,6 +21,10 @@ progressOf consumed produced = record { consumed = consumed; produced = produced
 -- a call that did nothing
 unfoldable pub isStalled : Progress → Bool
 isStalled progress = eqb (progress .consumed) 0 && eqb (progress .produced) 0
+
+-- if a frame was accepted earlier in the call, the progress is returned instead of a refusal
+unfoldable pub refusedAfter : Progress → ℕ → Told Progress
+refusedAfter progress n = if eqb (progress .consumed) 0 then refuses n else gives progress
 
 -- the progress of one part of a call and of the rest, together
 unfoldable pub addProgress : Progress → Progress → Progress

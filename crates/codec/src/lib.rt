@@ -1,7 +1,8 @@
 // What a codec's call gives back: how much it consumed and produced, or a refusal.
 use sbc_parameters::Error;
 ghost use mathlib.Core.Path.{_≡_};
-ghost use Rattle.codec.specs.Answers.{progressOf, isStalled};
+ghost use Rattle.sbc_parameters.specs.Errors.{errorNumber};
+ghost use Rattle.codec.specs.Answers.{toldCoded, progressOf, isStalled, refusedAfter};
 
 // How much a call consumed and produced: bytes and samples for a decoder, samples and bytes for an encoder.
 pub struct Progress {
@@ -28,4 +29,14 @@ impl Progress {
 pub enum Coded {
     Done(Progress),
     Refused(Error),
+}
+
+// What a refusal makes a call give back: the progress where a frame was accepted before it.
+pub fn refusal_or_progress(error: Error, progress: Progress) -> Coded
+    ensures { λ r. ⌜ toldCoded r ≡ refusedAfter progress (errorNumber error) ⌝ }
+{
+    if progress.consumed == 0 {
+        return Coded::Refused(error);
+    }
+    Coded::Done(progress)
 }

@@ -19,7 +19,7 @@ use Rattle.sbc_parameters.specs.Sizes.{frameLength, frameSamples}
 use Rattle.sbc_parameters.proofs.Accepted.{frame-length-range}
 use Rattle.sbc_frame.specs.Fields.{Fields}
 use Rattle.sbc_frame.proofs.Coding.{encode-fits}
-use Rattle.codec.specs.Answers.{progressOf, wholeFrames}
+use Rattle.codec.specs.Answers.{progressOf, refusedAfter, wholeFrames}
 use Rattle.sbc_encoder.specs.Encode.{histories, withHistories, encoderOf, newEncoder, nextEncoder, encodedFrames, packAll, encode}
 use Rattle.sbc_decoder.specs.Decode.{newDecoder, finish, withFinishing, nextDecoder, Step, none-whole, refused, taken, decodeAll, answerOf, decode}
 use Rattle.sbc.specs.TwoLanguages.{Action, encodes, finishes, decodes, State, Result, After, afterEncode, afterDecode, after, run}
@@ -83,7 +83,7 @@ unskipped-after p (f ∷ fs) d h = unskipped-after p fs (nextDecoder p d f) (sti
 
 decode-answered : (n frame-in frame-out : ℕ) → 0 < frame-in → (x : Step)
     → Answered n frame-in frame-out (answerOf (progressOf (n * frame-in) (n * frame-out)) x)
-unfolding answerOf progressOf
+unfolding answerOf refusedAfter progressOf
 decode-answered n i o h none-whole = all-taken
 decode-answered n i o h (taken more) = all-taken
 decode-answered n i o h (refused m) =

@@ -19,8 +19,8 @@ use Rattle.sbc_frame.specs.Channels.{noSynthesis}
 use Rattle.codec.specs.declared.Progress.{Progress}
 use Rattle.sbc_decoder.specs.Decode.{cleared, newDecoder, withParameters, withSynthesis, nextDecoder, play, decodeAll, decode}
 use Rattle.sbc_decoder.specs.Seek.{seek}
-use Rattle.sbc_decoder.specs.declared.LastParameters.{LastParameters}
-use Rattle.sbc_decoder.specs.declared.LastParameters.the-variants.{None, Some}
+use Rattle.sbc_seek.specs.declared.LastParameters.{LastParameters}
+use Rattle.sbc_seek.specs.declared.LastParameters.the-variants.{None, Some}
 use Rattle.sbc_decoder.specs.declared.SbcDecoder.{SbcDecoder}
 use Rattle.sbc_frame.specs.Decoding.{synthesisHistories}
 use Rattle.sbc_decoder.proofs.Taking.{decode-induction}

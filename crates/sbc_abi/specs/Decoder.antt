@@ -11,10 +11,10 @@ use Rattle.laws.specs.Answers.{Told, gives, refuses}
 use Rattle.sbc_filterbank.specs.declared.synthesis.Synthesis.{Synthesis}
 use Rattle.sbc_decoder.specs.Decode.{Decoded, finish, decode}
 use Rattle.sbc_decoder.specs.Seek.{Sought, reset, seek}
-use Rattle.sbc_decoder.specs.declared.LastParameters.{LastParameters}
-use Rattle.sbc_decoder.specs.declared.LastParameters.the-variants.{None, Some}
+use Rattle.sbc_seek.specs.declared.LastParameters.{LastParameters}
+use Rattle.sbc_seek.specs.declared.LastParameters.the-variants.{None, Some}
 use Rattle.sbc_decoder.specs.declared.SbcDecoder.{SbcDecoder}
-use Rattle.sbc_decoder.specs.declared.SeekRequest.{SeekRequest}
+use Rattle.sbc_seek.specs.declared.SeekRequest.{SeekRequest}
 use Rattle.sbc_abi.specs.Numbers.{isSet, parametersIn, numbersOf, noNumbers, codedNumbers}
 use Rattle.sbc_abi.specs.declared.ParameterNumbers.{ParameterNumbers}
 use Rattle.sbc_abi.specs.declared.CodedNumbers.{CodedNumbers}

@@ -9,14 +9,15 @@ use crate::is_set;
 use crate::numbers_of;
 use crate::parameters_in;
 use codec::Coded;
-use sbc_decoder::LastParameters;
 use sbc_decoder::SbcDecoder;
-use sbc_decoder::SeekOutcome;
 use sbc_filterbank::Synthesis;
+use sbc_seek::LastParameters;
+use sbc_seek::SeekOutcome;
 ghost use mathlib.Core.Path.{_≡_};
 ghost use Rattle.codec.specs.Answers.{toldCoded};
 ghost use Rattle.sbc_decoder.specs.Decode.{newDecoder, decode};
-ghost use Rattle.sbc_decoder.specs.Seek.{toldSeek, seek};
+ghost use Rattle.sbc_seek.specs.Seek.{toldSeek};
+ghost use Rattle.sbc_decoder.specs.Seek.{seek};
 ghost use Rattle.sbc_abi.specs.Numbers.{codedNumbers};
 ghost use Rattle.sbc_abi.specs.Decoder.{isBlank, isHeld, isDecoder, lastIn, decoderIn, heldNumber, heldNumbers, stateOf, seekNumbers, toldDecode, afterDecode, decodeState, afterSeek, seekState, resetState, finishState};
 

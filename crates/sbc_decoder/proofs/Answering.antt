@@ -7,21 +7,14 @@ use lib.Dec.{eqb}
 use borrow.Author.Tests.{eqb-true}
 use Rattle.laws.specs.Choice.{if_then_else_}
 use Rattle.laws.specs.Answers.{gives, refuses}
-use Rattle.sbc_parameters.specs.Errors.{errorNumber}
-use Rattle.laws.proofs.Answers.{gives-same, refuses-same, gives-refuses}
-use Rattle.sbc_parameters.proofs.Answers.{error-determined}
-use Rattle.sbc_decoder.specs.Seek.{toldSeek}
+use Rattle.laws.proofs.Answers.{gives-same, gives-refuses}
 use Rattle.sbc_decoder.specs.Decode.{Step, none-whole, refused, taken, answerOf}
+use Rattle.codec.specs.Answers.{refusedAfter}
 use Rattle.codec.specs.declared.Progress.{Progress}
-use Rattle.codec.specs.declared.Coded.{Coded}
-use Rattle.codec.specs.declared.Coded.the-variants as coded
-use Rattle.sbc_decoder.specs.declared.SeekRequest.{SeekRequest}
-use Rattle.sbc_decoder.specs.declared.SeekOutcome.{SeekOutcome}
-use Rattle.sbc_decoder.specs.declared.SeekOutcome.the-variants as seeks
 
 -- a refusal means that no frame was taken
 pub refused-none : (progress : Progress) (s : Step) (n : ℕ) → answerOf progress s ≡ refuses n → progress .consumed ≡ 0
-unfolding answerOf
+unfolding answerOf refusedAfter
 refused-none progress none-whole n q = absurd (gives-refuses progress n q)
 refused-none progress (taken more) n q = absurd (gives-refuses progress n q)
 refused-none progress (refused m) n q = go (eqb (progress .consumed) 0) refl q
@@ -32,7 +25,7 @@ refused-none progress (refused m) n q = go (eqb (progress .consumed) 0) refl q
 
 -- a progress that is given is that of the frames
 pub given-progress : (progress given : Progress) (s : Step) → answerOf progress s ≡ gives given → progress ≡ given
-unfolding answerOf
+unfolding answerOf refusedAfter
 given-progress progress given none-whole q = gives-same progress given q
 given-progress progress given (taken more) q = gives-same progress given q
 given-progress progress given (refused n) q = go (eqb (progress .consumed) 0) q
@@ -40,13 +33,3 @@ given-progress progress given (refused n) q = go (eqb (progress .consumed) 0) q
     go : (t : Bool) → (if t then refuses n else gives progress) ≡ gives given → progress ≡ given
     go true q = absurd (gives-refuses given n (sym q))
     go false q = gives-same progress given q
-
--- ---- what is told of an answer determines it: a contract on what is told fixes what is returned
-
-pub seek-determined : (a b : SeekOutcome) → toldSeek a ≡ toldSeek b → a ≡ b
-unfolding toldSeek
-seek-determined (seeks.At x) (seeks.At y) h = ap seeks.At (gives-same x y h)
-seek-determined (seeks.At x) (seeks.Refused f) h = absurd (gives-refuses x (errorNumber f) h)
-seek-determined (seeks.Refused e) (seeks.At y) h = absurd (gives-refuses y (errorNumber e) (sym h))
-seek-determined (seeks.Refused e) (seeks.Refused f) h =
-    ap seeks.Refused (error-determined e f (refuses-same {A = SeekRequest} (errorNumber e) (errorNumber f) h))

@@ -7,8 +7,8 @@ use Rattle.sbc_decoder.proofs.SbcDecoder as d
 use Rattle.sbc_decoder.proofs.SbcDecoder.Laws as d′
 use Rattle.codec.proofs.Coded as c
 use Rattle.codec.proofs.Coded.Laws as c′
-use Rattle.sbc_decoder.proofs.SeekOutcome as s
-use Rattle.sbc_decoder.proofs.SeekOutcome.Laws as s′
+use Rattle.sbc_seek.proofs.SeekOutcome as s
+use Rattle.sbc_seek.proofs.SeekOutcome.Laws as s′
 use Rattle.sbc_decoder.proofs.DecodeResult as decode
 use Rattle.sbc_decoder.proofs.SeekResult as seek
 

@@ -1,4 +1,4 @@
--- Laws of the decoder's calls: the answer, the turns of a decode call, the cases of a seek.
+-- Laws of the decoder's calls: the answer, the turns of a decode call, the decoder after a seek.
 pub mod Answering
 pub mod Taking
 pub mod Turning

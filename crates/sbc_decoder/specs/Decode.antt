@@ -7,7 +7,7 @@ use lib.Dec.{eqb, ltb}
 use lib.IntN.{ℤ}
 use lib.ListN.{length, take, drop, replicate}
 use Rattle.laws.specs.Choice.{if_then_else_}
-use Rattle.laws.specs.Answers.{Told, gives, refuses}
+use Rattle.laws.specs.Answers.{Told, gives}
 use Rattle.sbc_parameters.specs.Parameters.{channels}
 use Rattle.sbc_parameters.specs.Sizes.{frameLength, samplesPerChannel, frameSamples}
 use Rattle.sbc_parameters.specs.declared.SbcParameters.{SbcParameters}
@@ -16,11 +16,11 @@ use Rattle.sbc_frame.specs.Fields.{Fields}
 use Rattle.sbc_frame.specs.Layout.{unpack}
 use Rattle.sbc_frame.specs.Channels.{noSynthesis}
 use Rattle.sbc_frame.specs.Decoding.{decodeFields, synthesisHistories}
-use Rattle.codec.specs.Answers.{progressOf, addProgress}
+use Rattle.codec.specs.Answers.{progressOf, addProgress, refusedAfter}
 use Rattle.codec.specs.declared.Progress.{Progress}
 use Rattle.sbc_look.specs.Look.{Look, cut, bad, whole, look}
-use Rattle.sbc_decoder.specs.declared.LastParameters.{LastParameters}
-use Rattle.sbc_decoder.specs.declared.LastParameters.the-variants.{None, Some}
+use Rattle.sbc_seek.specs.declared.LastParameters.{LastParameters}
+use Rattle.sbc_seek.specs.declared.LastParameters.the-variants.{None, Some}
 use Rattle.sbc_decoder.specs.declared.SbcDecoder.{SbcDecoder}
 
 -- ---- the decoder, and its fields set one by one
@@ -158,7 +158,7 @@ decodeAll d input output = decodeTurns (length input) d input output
 -- if a frame was accepted earlier in the call, the progress is returned instead
 unfoldable pub answerOf : Progress → Step → Told Progress
 answerOf progress none-whole = gives progress
-answerOf progress (refused n) = if eqb (progress .consumed) 0 then refuses n else gives progress
+answerOf progress (refused n) = refusedAfter progress n
 answerOf progress (taken more) = gives progress
 
 -- a call: its answer, and what it leaves

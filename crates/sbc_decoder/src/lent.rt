@@ -2,8 +2,8 @@
 // and the state that it gave back is stored. So each has the equation of the call by value, whose result is here the answer together
 // with the state at exit.
 use crate::SbcDecoder;
-use crate::SeekOutcome;
 use codec::Coded;
+use sbc_seek::SeekOutcome;
 ghost use mathlib.Core.Path.{_≡_};
 ghost use Rattle.sbc_decoder.specs.Decode.{finish, decode};
 ghost use Rattle.sbc_decoder.specs.Told.{toldDecoded};

@@ -4,6 +4,7 @@ mod lent;
 
 use codec::Coded;
 use codec::Progress;
+use codec::refusal_or_progress;
 use laws::least;
 use sbc_decode_frame::decode_frame;
 use sbc_filterbank::Synthesis;
@@ -12,7 +13,9 @@ use sbc_look::WholeFrame;
 use sbc_look::look;
 use sbc_parameters::Error;
 use sbc_parameters::SbcParameters;
-use sbc_parameters::Validated;
+use sbc_seek::LastParameters;
+use sbc_seek::SeekOutcome;
+use sbc_seek::seek_request;
 ghost use mathlib.Core.Path.{_≡_};
 ghost use mathlib.Core.Bool.{true};
 ghost use mathlib.Core.List.{List, _++_};
@@ -22,23 +25,12 @@ ghost use lib.IntN.{ℤ};
 ghost use lib.ListN.{length, take, drop};
 ghost use Rattle.sbc_parameters.specs.Errors.{errorNumber};
 ghost use Rattle.sbc_parameters.specs.Parameters.{accepted};
-ghost use Rattle.sbc_parameters.specs.Seek.{seekFrame};
 ghost use Rattle.sbc_parameters.specs.Sizes.{frameLength, frameSamples};
 ghost use Rattle.sbc_frame.specs.Layout.{unpack};
 ghost use Rattle.sbc_look.specs.Look.{whole, look};
-ghost use Rattle.sbc_decoder.specs.Decode.{cleared, play, newDecoder, finish, startHistories, refused, unchanged, shortStep, turnAt, decodeNext, answerOf, decode};
-ghost use Rattle.codec.specs.Answers.{toldCoded, progressOf};
+ghost use Rattle.sbc_decoder.specs.Decode.{cleared, play, newDecoder, finish, startHistories, refused, unchanged, shortStep, turnAt, decodeNext, decode};
 ghost use Rattle.sbc_decoder.specs.Told.{toldOutcome, toldTurn, toldDecoded};
-ghost use Rattle.sbc_decoder.specs.Seek.{toldSought, reset, resumed, seekFirst, seekFrom, seek};
-
-// The blocks that the synthesis filterbank remembers.
-const SYNTHESIS_HISTORY_BLOCKS: u64 = 9;
-
-// The parameters of the last accepted frame, where there was one.
-pub enum LastParameters {
-    None,
-    Some(SbcParameters),
-}
+ghost use Rattle.sbc_decoder.specs.Seek.{toldSought, reset, resumed, seek};
 
 // An SBC and mSBC decoder.
 pub struct SbcDecoder {
@@ -68,18 +60,6 @@ pub enum Outcome {
 pub struct TurnResult {
     pub outcome: Outcome,
     pub decoder: SbcDecoder,
-}
-
-// Where to go on feeding bytes after a seek, and the samples of each channel that the decoder then drops.
-pub struct SeekRequest {
-    pub byte_offset: u64,
-    pub skip_frames: u32,
-}
-
-// What a seek gives back.
-pub enum SeekOutcome {
-    At(SeekRequest),
-    Refused(Error),
 }
 
 // What a seek gives back, and the decoder after it.
@@ -161,7 +141,7 @@ impl SbcDecoder {
                 }
                 Outcome::Refused(error) => {
                     return DecodeResult {
-                        answer: refusal_or_progress(error, consumed, produced),
+                        answer: refusal_or_progress(error, Progress { consumed, produced }),
                         decoder,
                     };
                 }
@@ -253,69 +233,21 @@ impl SbcDecoder {
         }
     }
 
-    // Seeks to a position, counted in samples of one channel from the start of the audio. The offset is counted from the start of the stream,
-    // as if every frame had the parameters of the last one; decoding resumes 9 blocks early, to fill the filterbank, and drops them.
+    // Seeks to a position, counted in samples of one channel from the start of the audio: `seek_request` says where to go on.
     pub fn sought(self, position: u64) -> SeekResult
         ensures { λ r. ⌜ toldSought r ≡ seek self position ⌝ }
     {
         let last = self.parameters;
-        match last {
-            LastParameters::None => self.seek_first(position),
-            LastParameters::Some(parameters) => self.seek_from(parameters, position),
-        }
-    }
-
-    // With nothing decoded yet.
-    fn seek_first(self, position: u64) -> SeekResult
-        ensures { λ r. ⌜ toldSought r ≡ seekFirst self position ⌝ }
-    {
-        if position == 0 {
-            return SeekResult {
-                outcome: SeekOutcome::At(SeekRequest {
-                    byte_offset: 0,
-                    skip_frames: 0,
-                }),
-                decoder: self.restarted(),
-            };
-        }
-        SeekResult {
-            outcome: SeekOutcome::Refused(Error::Incomplete),
-            decoder: self,
-        }
-    }
-
-    // In a stream of frames with these parameters.
-    fn seek_from(self, parameters: SbcParameters, position: u64) -> SeekResult
-        ensures { λ r. ⌜ toldSought r ≡ seekFrom parameters self position ⌝ }
-    {
-        match parameters.validate() {
-            Validated::Accepted => self.seek_accepted(parameters, position),
-            Validated::Refused(error) => SeekResult {
-                outcome: SeekOutcome::Refused(error),
-                decoder: self,
+        let outcome = seek_request(last, position);
+        match outcome {
+            SeekOutcome::At(request) => SeekResult {
+                outcome,
+                decoder: self.resumed(request.skip_frames as usize),
             },
-        }
-    }
-
-    fn seek_accepted(self, parameters: SbcParameters, position: u64) -> SeekResult
-        requires { ⌜ accepted parameters ≡ true ⌝ }
-        ensures { λ r. ⌜ toldSought r ≡ seekFrom parameters self position ⌝ }
-    {
-        let length = parameters.frame_length() as u64;
-        let frame = seek_frame(parameters, position);
-        if frame > 18_446_744_073_709_551_615 / length {
-            return SeekResult {
-                outcome: SeekOutcome::Refused(Error::InvalidParameter),
-                decoder: self,
-            };
-        }
-        let skip = position - frame * parameters.samples_per_channel() as u64;
-        SeekResult {
-            outcome: SeekOutcome::At(SeekRequest {
-                byte_offset: frame * length,
-                skip_frames: skip as u32,
-            }),
-            decoder: self.resumed(skip as usize),
+            SeekOutcome::Refused(_) => {
+                let decoder = self;
+                SeekResult { outcome, decoder }
+            }
         }
     }
 
@@ -335,18 +267,6 @@ impl SbcDecoder {
     }
 }
 
-// The frame of the block that is 9 before the position's block, not below 0.
-fn seek_frame(parameters: SbcParameters, position: u64) -> u64
-    requires { ⌜ accepted parameters ≡ true ⌝ }
-    ensures { λ r. ⌜ r ≡ seekFrame parameters position ⌝ }
-{
-    let block = position / parameters.subbands as u64;
-    if block < SYNTHESIS_HISTORY_BLOCKS {
-        return 0;
-    }
-    (block - SYNTHESIS_HISTORY_BLOCKS) / parameters.blocks as u64
-}
-
 // Whether two sets have as many subbands.
 fn same_subbands(before: SbcParameters, parameters: SbcParameters) -> bool
     ensures { λ r. ⌜ r ≡ eqb (before .subbands) (parameters .subbands) ⌝ }
@@ -360,16 +280,6 @@ fn turned_away(decoder: SbcDecoder, error: Error) -> TurnResult
 {
     let outcome = Outcome::Refused(error);
     TurnResult { outcome, decoder }
-}
-
-// What a refused frame makes the call give back: the frames accepted before it count.
-fn refusal_or_progress(error: Error, consumed: usize, produced: usize) -> Coded
-    ensures { λ r. ⌜ toldCoded r ≡ answerOf (progressOf consumed produced) (refused (errorNumber error)) ⌝ }
-{
-    if consumed == 0 {
-        return Coded::Refused(error);
-    }
-    Coded::Done(Progress { consumed, produced })
 }
 
 // Leaves out the first samples of a frame's: the others move to the front, and the places behind them keep what they held.

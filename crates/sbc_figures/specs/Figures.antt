@@ -12,15 +12,15 @@ use Rattle.crc8.specs.Checksum.{crcStep, crcBits}
 use Rattle.sbc_parameters.specs.Parameters.{highQuality, msbc, sampleRates, blockCounts, channelModes, allocations, subbandCounts, modeNumber, allocationNumber, maximumBitpool, isMsbc, msbcTests, fieldTests, accepted, validate}
 use Rattle.sbc_parameters.specs.Sizes.{joinCount, blockBits, audioBits, frameLength, samplesPerChannel, frameSamples}
 use Rattle.sbc_parameters.specs.Header.{fromSettings, parse}
-use Rattle.sbc_parameters.specs.Seek.{seekFrame, seekOffset, seekSkip}
 use Rattle.sbc_allocation.specs.Need.{need}
 use Rattle.sbc_allocation.specs.Share.{sum, above, heights, levelPart, levelBits, descend, greatestNeed, leastNeed, levelOf, baseBits, roundGain, roundBits, lastBit, shareAt, share}
 use Rattle.sbc_allocation.specs.Allocate.{channelNeeds, allocateBy, allocate}
 use Rattle.sbc_quantizer.specs.Quantizing.{firstFrom, scaleFactor, quantize, reconstruct}
 use Rattle.sbc_decoder.specs.Decode.{newDecoder, withParameters}
-use Rattle.sbc_decoder.specs.Seek.{requestOf, seekFrom, seekAfter, seek}
-use Rattle.sbc_decoder.specs.declared.SeekRequest.{SeekRequest}
-use Rattle.sbc_decoder.specs.declared.LastParameters.the-variants.{Some}
+use Rattle.sbc_seek.specs.Seek.{seekFrame, seekOffset, seekSkip, requestOf, requestIn, seekRequest}
+use Rattle.sbc_seek.specs.declared.SeekRequest.{SeekRequest}
+use Rattle.sbc_seek.specs.declared.LastParameters.the-variants.{Some}
+use Rattle.sbc_decoder.specs.Seek.{seekAnswered, seek}
 use Rattle.sbc_parameters.specs.declared.SbcParameters.{SbcParameters}
 use Rattle.sbc_parameters.specs.declared.SbcChannelMode.the-variants.{Mono, DualChannel}
 use Rattle.sbc_parameters.specs.declared.SbcAllocation.the-variants.{Loudness, Snr}
@@ -126,7 +126,7 @@ unfolding sizes headers checksums shares shareSet reconstructions quantizings fa
     allOf indexOf listed odd bitsOf crcStep crcBits
     highQuality msbc sampleRates blockCounts channelModes allocations subbandCounts maximumBitpool isMsbc msbcTests fieldTests accepted validate
     joinCount blockBits audioBits frameLength samplesPerChannel frameSamples
-    fromSettings parse seekFrame seekOffset seekSkip requestOf seekFrom seekAfter seek withParameters newDecoder shownSeek
+    fromSettings parse seekFrame seekOffset seekSkip requestOf requestIn seekRequest seekAnswered seek withParameters newDecoder shownSeek
     firstFrom scaleFactor quantize reconstruct
     build collect need sum above heights levelPart levelBits descend greatestNeed leastNeed levelOf baseBits roundGain roundBits lastBit shareAt share
     channelNeeds allocateBy allocate

@@ -2,5 +2,4 @@
 pub mod Numbers
 pub mod Accepted
 pub mod Parsing
-pub mod Seeking
 pub mod Answers

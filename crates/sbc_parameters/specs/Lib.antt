@@ -2,4 +2,3 @@ pub mod Errors
 pub mod Parameters
 pub mod Sizes
 pub mod Header
-pub mod Seek

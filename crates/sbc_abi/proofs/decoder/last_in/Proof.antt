@@ -2,7 +2,7 @@
 -- Assumes nothing.
 use mathlib.Core.Path.{refl, ap}
 use borrow.Author.Tests.{eq-eqb, ne-eqb}
-use Rattle.sbc_decoder.specs.declared.LastParameters.the-variants.{Some}
+use Rattle.sbc_seek.specs.declared.LastParameters.the-variants.{Some}
 use Rattle.sbc_abi.specs.Decoder.{lastIn}
 use borrow.Author.Needs.{needs}
 use Rattle.sbc_abi.proofs.decoder.last_in.Statement.{statement}

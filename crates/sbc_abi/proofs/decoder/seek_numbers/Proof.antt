@@ -1,7 +1,7 @@
 -- `seek_numbers` meets its contract.
 -- Assumes nothing.
 use mathlib.Core.Path.{sym, ap, _∙_}
-use Rattle.sbc_decoder.specs.Seek.{toldSeek}
+use Rattle.sbc_seek.specs.Seek.{toldSeek}
 use Rattle.sbc_abi.specs.Decoder.{seekNumbers}
 use borrow.Author.Needs.{needs}
 use Rattle.sbc_abi.proofs.decoder.seek_numbers.Statement.{statement}

@@ -159,7 +159,7 @@ same-length-2 : tie.Need-same-length-2 Inv-loop μ-loop
 same-length-2 c = as-long (c .before .before .before .before .before .before)
 
 returns-2 : tie.Need-returns-2 Inv-loop μ-loop
-unfolding toldOutcome toldDecoded
+unfolding toldOutcome toldDecoded progressOf answerOf
 returns-2 c =
     let k = c .before .before .before .before .before .before in
     let t = here k .loop in

@@ -17,7 +17,7 @@ use Rattle.sbc_frame.proofs.Coding.{length-decoded}
 use Rattle.codec.specs.Answers.{progressOf}
 use Rattle.sbc_decoder.specs.Decode.{withParameters, withSynthesis, withSkip, startHistories, dropped, nextDecoder, nextOutput, taken, play}
 use Rattle.sbc_decoder.specs.Told.{toldOutcome, toldTurn}
-use Rattle.sbc_decoder.specs.declared.LastParameters.the-variants.{Some}
+use Rattle.sbc_seek.specs.declared.LastParameters.the-variants.{Some}
 use Rattle.sbc_decoder.specs.declared.SbcDecoder.{SbcDecoder}
 use Rattle.sbc_decoder.proofs.Taking.{gone, kept, gone-fits, samples, length-kept}
 use borrow.Author.Needs.{needs}

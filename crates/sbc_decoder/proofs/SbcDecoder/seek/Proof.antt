@@ -6,7 +6,7 @@ use Rattle.lending.proofs.Types.{passed-u64}
 use Rattle.lending.proofs.Passed.{Thin, function, lent-call}
 use Rattle.sbc_decoder.specs.Seek.{toldSought, seek}
 use Rattle.sbc_decoder.specs.declared.SbcDecoder.{SbcDecoder}
-use Rattle.sbc_decoder.specs.declared.SeekOutcome.{SeekOutcome}
+use Rattle.sbc_seek.specs.declared.SeekOutcome.{SeekOutcome}
 use Rattle.sbc_decoder.proofs.Lending.{decoder, seek-outcome, sought}
 use Rattle.sbc_decoder.proofs.SbcDecoder.sought.Symbol.{name as #core, routine}
 use Rattle.sbc_decoder.proofs.SbcDecoder.sought.Met.{met}

@@ -5,8 +5,8 @@ use mathlib.Core.Bool.{Bool, true, false}
 use Rattle.laws.specs.Choice.{if_then_else_}
 use Rattle.sbc_parameters.specs.declared.SbcParameters.{SbcParameters}
 use Rattle.sbc_decoder.specs.Decode.{cleared, sameSubbands, startHistories}
-use Rattle.sbc_decoder.specs.declared.LastParameters.{LastParameters}
-use Rattle.sbc_decoder.specs.declared.LastParameters.the-variants.{None, Some}
+use Rattle.sbc_seek.specs.declared.LastParameters.{LastParameters}
+use Rattle.sbc_seek.specs.declared.LastParameters.the-variants.{None, Some}
 use Rattle.sbc_decoder.specs.declared.SbcDecoder.{SbcDecoder}
 use borrow.Author.Needs.{needs}
 use Rattle.sbc_decoder.proofs.SbcDecoder.start_histories.Statement.{statement}

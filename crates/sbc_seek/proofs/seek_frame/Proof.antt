@@ -4,11 +4,11 @@ use Prim.Native.Nat.{_-_, _/_}
 use mathlib.Core.Path.{_≡_, sym, ap, _∙_}
 use native.Mathlib.Nat.{zero-div}
 use native.Mathlib.Omega.{arith}
-use Rattle.sbc_parameters.specs.Seek.{seekFrame}
+use Rattle.sbc_seek.specs.Seek.{seekFrame}
 use Rattle.sbc_parameters.proofs.Accepted.{ranges}
 use borrow.Author.Needs.{needs}
-use Rattle.sbc_decoder.proofs.seek_frame.Statement.{statement}
-use Rattle.sbc_decoder.proofs.seek_frame.Tie as tie
+use Rattle.sbc_seek.proofs.seek_frame.Statement.{statement}
+use Rattle.sbc_seek.proofs.seek_frame.Tie as tie
 
 cast-block : tie.Need-cast-block
 cast-block c = search needs

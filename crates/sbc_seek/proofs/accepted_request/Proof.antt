@@ -1,4 +1,4 @@
--- `SbcDecoder::seek_accepted` meets its contract: the offset is over u64 where the frame is past the quotient, and the skip is under 200.
+-- `accepted_request` meets its contract: the offset is over u64 where the frame is past the quotient, and the skip is under 200.
 -- Assumes nothing.
 use Prim.Native.Nat.{ℕ, _*_, _/_, _^_, _≤_, _<_}
 use mathlib.Core.Path.{_≡_, sym, ap, ap₂}
@@ -6,14 +6,12 @@ use native.Mathlib.Nat.{le-div-iff-mul-le, div-lt-iff-lt-mul}
 use native.Mathlib.Omega.{arith}
 use Rattle.sbc_parameters.specs.declared.SbcParameters.{SbcParameters}
 use Rattle.sbc_parameters.specs.Sizes.{frameLength, samplesPerChannel}
-use Rattle.sbc_parameters.specs.Seek.{seekFrame, seekOffset, seekSkip}
 use Rattle.sbc_parameters.proofs.Accepted.{frame-length-range}
-use Rattle.sbc_parameters.proofs.Seeking.{seek-frame-le, seek-skip-lt}
-use Rattle.sbc_decoder.specs.Seek.{toldSeek, toldSought, requestOf}
-use Rattle.sbc_decoder.proofs.Seeking.{seek-over, seek-inside}
+use Rattle.sbc_seek.specs.Seek.{seekFrame, seekOffset, seekSkip, requestOf, toldSeek}
+use Rattle.sbc_seek.proofs.Seeking.{seek-frame-le, seek-skip-lt, request-over, request-inside}
 use borrow.Author.Needs.{needs}
-use Rattle.sbc_decoder.proofs.SbcDecoder.seek_accepted.Statement.{statement}
-use Rattle.sbc_decoder.proofs.SbcDecoder.seek_accepted.Tie as tie
+use Rattle.sbc_seek.proofs.accepted_request.Statement.{statement}
+use Rattle.sbc_seek.proofs.accepted_request.Tie as tie
 
 frame-length-requires : tie.Need-frame-length-requires
 frame-length-requires c κs = search needs
@@ -27,14 +25,14 @@ div-if1 c =
     omega (arith, c .before .frame-length .ensures, frame-length-range (start .args .parameters) (start .pre) .0)
 
 returns : tie.Need-returns
-unfolding toldSeek toldSought seekOffset
+unfolding toldSeek seekOffset
 returns c =
     let start = c .before .before .before in
     let p = start .args .parameters in
     let some : 0 < frameLength p = omega (arith, frame-length-range p (start .pre) .0) in
     let past : 18446744073709551615 / frameLength p < seekFrame p (start .args .position) =
     omega (arith, c .if1 .taken, c .before .seek-frame .ensures, ap (λ n. 18446744073709551615 / n) (c .before .before .frame-length .ensures)) in
-    sym (seek-over p (start .args .self) (start .args .position) (start .pre) (omega (arith, div-lt-iff-lt-mul some .0 past)))
+    sym (request-over p (start .args .position) (start .pre) (omega (arith, div-lt-iff-lt-mul some .0 past)))
 
 samples-per-channel-requires : tie.Need-samples-per-channel-requires
 samples-per-channel-requires c κs = search needs
@@ -72,24 +70,20 @@ mul-skip c = omega (arith, begins c, seek-frame-le (p c) (position c))
 sub-skip : tie.Need-sub-skip
 sub-skip c = omega (arith, begins c, seek-frame-le (p c) (position c))
 
-mul-t8 : tie.Need-mul-t8
-mul-t8 c = omega (arith, offset c, offset-fits c)
+mul-byte-offset : tie.Need-mul-byte-offset
+mul-byte-offset c = omega (arith, offset c, offset-fits c)
 
-cast-t13 : tie.Need-cast-t13
+cast-skip-frames : tie.Need-cast-skip-frames
 unfolding seekSkip
-cast-t13 c = omega (arith, begins c, seek-skip-lt (p c) (position c) (start c .pre))
-
-resumed-requires : tie.Need-resumed-requires
-resumed-requires c κs = search needs
+cast-skip-frames c = omega (arith, begins c, seek-skip-lt (p c) (position c) (start c .pre))
 
 returns-2 : tie.Need-returns-2
-unfolding toldSeek toldSought requestOf seekSkip
+unfolding toldSeek requestOf seekSkip
 returns-2 c =
-    rw (c .resumed .ensures, begins (c .before), offset (c .before))
-    (sym (seek-inside (p (c .before)) (start (c .before) .args .self) (position (c .before)) (start (c .before) .pre) (offset-fits (c .before))))
+    rw (begins c, offset c) (sym (request-inside (p c) (position c) (start c .pre) (offset-fits c)))
 
-pub seek-accepted-spec : {M : Type 1} → statement M
-seek-accepted-spec =
+pub accepted-request-spec : {M : Type 1} → statement M
+accepted-request-spec =
     tie.close
     (tie.spec
     frame-length-requires
@@ -99,7 +93,6 @@ seek-accepted-spec =
     samples-per-channel-requires
     mul-skip
     sub-skip
-    mul-t8
-    cast-t13
-    resumed-requires
+    mul-byte-offset
+    cast-skip-frames
     returns-2)

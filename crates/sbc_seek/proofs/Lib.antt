@@ -1,0 +1,3 @@
+-- Laws of where a seek resumes. For other crates: `Seeking`, of the definition, and `Answering`, of what the code answers.
+pub mod Seeking
+pub mod Answering
