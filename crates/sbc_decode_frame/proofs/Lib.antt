@@ -1,4 +1,2 @@
--- What the code reads of a frame is what `unpack` reads, and what it plays is what `decodeFields` plays.
-mod Received
-mod Weaving
-mod Played
+-- What is played of what is read of a frame is what `decodeFields` plays of its fields.
+mod Decoded

@@ -1,12 +1,12 @@
 -- How the code of both directions holds what belongs to subbands, for the contracts of its inner functions alone: a number for each subband in a
 -- row of eight, and the subband samples of a channel in an array of 128, eight places a block. Nothing public cites this.
 -- From document 01, "Parameters", "Quantizing" and "Joint stereo".
-use Prim.Native.Nat.{ℕ, _+_, _*_, _/_, _%_}
+use Prim.Native.Nat.{ℕ, _+_, _*_, _/_, _%_, _≤_, _<_}
 use mathlib.Core.Bool.{_&&_}
 use mathlib.Core.List.{List}
 use lib.Dec.{eqb, ltb}
 use lib.ListN.{getD}
-use lib.IntN.{ℤ, pos}
+use lib.IntN.{ℤ, pos, natAbs}
 use Rattle.laws.specs.Choice.{if_then_else_}
 use Rattle.laws.specs.Lists.{build}
 
@@ -21,6 +21,10 @@ below n f k = if ltb k n then f k else 0
 -- the sample of block b and subband s
 abbrev pub sampleIn : List ℤ → ℕ → ℕ → ℤ
 sampleIn xs b s = getD xs (8 * b + s) (pos 0)
+
+-- no sample of the first n blocks has an absolute value above the bound
+abbrev pub Small : ℕ → ℕ → List ℤ → Type 0
+Small n bound xs = (b s : ℕ) → b < n → s < 8 → natAbs (sampleIn xs b s) ≤ bound
 
 -- an array of samples with those of subband s replaced in its first n blocks
 unfoldable pub withSubband : ℕ → ℕ → (ℕ → ℤ) → List ℤ → List ℤ

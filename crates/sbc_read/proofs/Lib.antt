@@ -1,0 +1,2 @@
+-- What the code reads of a frame is what `unpack` reads.
+mod Received
