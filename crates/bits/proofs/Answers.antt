@@ -4,7 +4,6 @@ use Prim.Native.Nat.{ℕ}
 use mathlib.Core.Path.{_≡_, refl, ap}
 use mathlib.Core.List.{List}
 use native.Mathlib.Omega.{arith}
-use Rattle.laws.specs.Answers.{Told}
 use Rattle.bits.specs.Fields.{toldBits, toldRead, toldRoom, toldWritten}
 use Rattle.bits.specs.declared.Bits.{Bits}
 use Rattle.bits.specs.declared.Bits.the-variants.{Value, Incomplete}
@@ -12,17 +11,15 @@ use Rattle.bits.specs.declared.Read.{Read}
 use Rattle.bits.specs.declared.Room.{Room}
 use Rattle.bits.specs.declared.Room.the-variants.{Enough, BufferTooSmall}
 use Rattle.bits.specs.declared.Written.{Written}
-use Rattle.bits.specs.declared.reader.BitReader.{BitReader}
-use Rattle.bits.specs.declared.writer.BitWriter.{BitWriter}
 
-bits-determined : (a b : Bits) → toldBits a ≡ toldBits b → a ≡ b
+pub bits-determined : (a b : Bits) → toldBits a ≡ toldBits b → a ≡ b
 unfolding toldBits
 bits-determined (Value v) (Value w) h = let e : v ≡ w = cc in ap Value e
 bits-determined (Value v) Incomplete h = let z : _≡_ {A = ℕ} 0 1 = cc in absurd (omega arith)
 bits-determined Incomplete (Value w) h = let z : _≡_ {A = ℕ} 0 1 = cc in absurd (omega arith)
 bits-determined Incomplete Incomplete h = refl
 
-room-determined : (a b : Room) → toldRoom a ≡ toldRoom b → a ≡ b
+pub room-determined : (a b : Room) → toldRoom a ≡ toldRoom b → a ≡ b
 unfolding toldRoom
 room-determined Enough Enough h = refl
 room-determined Enough BufferTooSmall h = let z : _≡_ {A = ℕ} 0 1 = cc in absurd (omega arith)
@@ -43,10 +40,3 @@ written-determined a b xs ys h =
     let room = room-determined (a .room) (b .room) (ap (λ r. r .answer) h) in
     let position = ap (λ r. r .position) h in
     (λ i. record { room = room i; position = position i }, ap (λ r. r .bytes) h)
-
--- the same of the reader and of the writer after a call
-pub reader-determined : (a b : Bits) (r s : BitReader) → _≡_ {A = Told ℕ × BitReader} (toldBits a, r) (toldBits b, s) → (a ≡ b) × (r ≡ s)
-reader-determined a b r s h = (bits-determined a b (ap (λ p. p .0) h), ap (λ p. p .1) h)
-
-pub writer-determined : (a b : Room) (w x : BitWriter) → _≡_ {A = Told Unit × BitWriter} (toldRoom a, w) (toldRoom b, x) → (a ≡ b) × (w ≡ x)
-writer-determined a b w x h = (room-determined a b (ap (λ p. p .0) h), ap (λ p. p .1) h)

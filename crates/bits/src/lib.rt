@@ -1,11 +1,4 @@
 // Bits of a slice of bytes at a bit position, high bit first, by whole bytes.
-pub mod reader;
-pub mod writer;
-
-pub use reader::BitReader;
-pub use reader::read_bits;
-pub use writer::BitWriter;
-pub use writer::write_bits;
 ghost use mathlib.Core.Path.{_≡_};
 ghost use mathlib.Core.List.{_++_};
 ghost use Prim.Native.Nat.{_+_, _-_, _*_, _^_, _<_, _≤_, min};

@@ -1,4 +1,4 @@
--- `bits::reader::BitReader::new` meets its contract: a walk of its MIR, by hand. A `BitReader` is made of the slice passed and 0, in the
+-- `bitstream::reader::BitReader::new` meets its contract: a walk of its MIR, by hand. A `BitReader` is made of the slice passed and 0, in the
 -- result's local.
 -- A `&[u8]` is Copy, so what it owns is had twice: once for bytes at exit, and once inside the result, beside the facts of position.
 -- Assumes nothing.
@@ -36,14 +36,14 @@ use denote.Triple.Spec.{Meets, tripleOf}
 use denote.Triple.Table.{entered}
 use denote.Triple.Walked.{says, Stays, stay-none-slice, walkOf, goes-none-slice, Walks, ends-at, walked, walk-meets}
 use denote.Exit.{yes}
-use Rattle.bits.specs.Held.{readerOver}
-use Rattle.bits.specs.declared.reader.BitReader.{BitReader}
-use Rattle.bits.proofs.reader.BitReader as T
-use Rattle.bits.proofs.reader.BitReader.Laws as T′
-use Rattle.bits.proofs.reader.BitReader.new.Key.{name as #new}
-use Rattle.bits.proofs.reader.BitReader.new as new
-use Rattle.bits.proofs.reader.BitReader.new.Statement as stated
-use Rattle.bits.proofs.reader.BitReader.new.Code as code
+use Rattle.bitstream.specs.Held.{readerOver}
+use Rattle.bitstream.specs.declared.reader.BitReader.{BitReader}
+use Rattle.bitstream.proofs.reader.BitReader as T
+use Rattle.bitstream.proofs.reader.BitReader.Laws as T′
+use Rattle.bitstream.proofs.reader.BitReader.new.Key.{name as #new}
+use Rattle.bitstream.proofs.reader.BitReader.new as new
+use Rattle.bitstream.proofs.reader.BitReader.new.Statement as stated
+use Rattle.bitstream.proofs.reader.BitReader.new.Code as code
 
 abbrev stayed : Stays (new.ended .signature .params) (new.ended .kept)
 stayed = (stay-none-slice (0 ∷ []) tt (plain (λ _. u8)) yes, tt)

@@ -1,4 +1,4 @@
--- `bits::reader::read_bits` meets its contract: a walk of its MIR, by hand. A reader is made of the slice and the position in a local,
+-- `bitstream::reader::read_bits` meets its contract: a walk of its MIR, by hand. A reader is made of the slice and the position in a local,
 -- the local is lent by `&mut` to `read`, for a lifetime of the call within the lifetime of the bytes (`LocalReader.antt`,
 -- `Within.antt`), and its position is read when it is back.
 -- All that the proof knows of `read` is that it meets its contract. A `&[u8]` is Copy, so what it owns is had twice: once for bytes at
@@ -46,27 +46,27 @@ use denote.Triple.Table.{entered, cited}
 use denote.Triple.Walked.{says, Stays, stay-none, stay-none-slice, walkOf, goes-none, goes-none-slice, Walks, ends-at, walked, walk-meets}
 use denote.Exit.{yes}
 use Rattle.laws.specs.Answers.{Told}
 use Rattle.bits.specs.Fields.{toldBits, toldRead, readAt}
-use Rattle.bits.specs.Held.{readBy}
-use Rattle.bits.specs.declared.reader.BitReader.{BitReader}
+use Rattle.bitstream.specs.Held.{readBy}
+use Rattle.bitstream.specs.declared.reader.BitReader.{BitReader}
 use Rattle.bits.specs.declared.Bits.{Bits}
 use Rattle.bits.specs.declared.Read.{Read}
-use Rattle.bits.proofs.reader.BitReader as T
-use Rattle.bits.proofs.reader.BitReader.Laws as T′
+use Rattle.bitstream.proofs.reader.BitReader as T
+use Rattle.bitstream.proofs.reader.BitReader.Laws as T′
 use Rattle.bits.proofs.Bits as O
 use Rattle.bits.proofs.Bits.Laws as O′
 use Rattle.bits.proofs.Read as S
 use Rattle.bits.proofs.Read.Laws as S′
-use Rattle.bits.proofs.LocalReader.{lays, lifts, val}
-use Rattle.bits.proofs.Within.{Toks, Out, lends, comes}
-use Rattle.bits.proofs.reader.BitReader.read as core
-use Rattle.bits.proofs.reader.BitReader.read.Symbol as core-def
-use Rattle.bits.proofs.reader.BitReader.read.Symbol.{name as #core}
-use Rattle.bits.proofs.reader.BitReader.read.Met as core-thm
-use Rattle.bits.proofs.reader.read_bits.Key.{name as #read-bits}
-use Rattle.bits.proofs.reader.read_bits as read-bits
-use Rattle.bits.proofs.reader.read_bits.Statement as stated
-use Rattle.bits.proofs.reader.read_bits.Code as code
+use Rattle.bitstream.proofs.LocalReader.{lays, lifts, val}
+use Rattle.bitstream.proofs.Within.{Toks, Out, lends, comes}
+use Rattle.bitstream.proofs.reader.BitReader.read as core
+use Rattle.bitstream.proofs.reader.BitReader.read.Symbol as core-def
+use Rattle.bitstream.proofs.reader.BitReader.read.Symbol.{name as #core}
+use Rattle.bitstream.proofs.reader.BitReader.read.Met as core-thm
+use Rattle.bitstream.proofs.reader.read_bits.Key.{name as #read-bits}
+use Rattle.bitstream.proofs.reader.read_bits as read-bits
+use Rattle.bitstream.proofs.reader.read_bits.Statement as stated
+use Rattle.bitstream.proofs.reader.read_bits.Code as code
 
 abbrev stayed : Stays (read-bits.ended .signature .params) (read-bits.ended .kept)
 stayed = (stay-none-slice (0 ∷ []) tt (plain (λ _. u8)) yes, (stay-none (λ _. usize) yes, (stay-none (λ _. u32) yes, tt)))
@@ -210,4 +210,4 @@ read-bits-spec 𝓤 H 𝓜 𝓖 𝓡 =
     entered 𝓤 H (tripleOf 𝓤 H (𝓖 .A) read-bits.signature (read-bits.spec 𝓤 H (𝓖 .A) (𝓜 .mem) (𝓡 .run)))
     (tables 𝓤 H 𝓜 𝓡 code.env .C) (tables 𝓤 H 𝓜 𝓡 code.env .Λ) #read-bits code.function (code.unfolded 𝓤 H 𝓜 𝓡)
     (read-bits-meets 𝓤 H (𝓖 .A) (givenOf 𝓤 H 𝓜 𝓖) (𝓜 .mem) (𝓡 .run) (tablesOf 𝓤 H 𝓜 (tables 𝓤 H 𝓜 𝓡 code.env))
-    (cited 𝓤 H (Core 𝓤 H (𝓖 .A) (𝓜 .mem) (𝓡 .run)) 𝓜 𝓡 code.env #core core-def.routine code.calls-bits·reader·BitReader·read (core-thm.met 𝓤 H 𝓜 𝓖 𝓡)))
+    (cited 𝓤 H (Core 𝓤 H (𝓖 .A) (𝓜 .mem) (𝓡 .run)) 𝓜 𝓡 code.env #core core-def.routine code.calls-bitstream·reader·BitReader·read (core-thm.met 𝓤 H 𝓜 𝓖 𝓡)))

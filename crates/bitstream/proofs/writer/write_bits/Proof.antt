@@ -1,4 +1,4 @@
--- `bits::writer::write_bits` meets its contract: a walk of its MIR, by hand. A writer is made of the borrow and the position in a local,
+-- `bitstream::writer::write_bits` meets its contract: a walk of its MIR, by hand. A writer is made of the borrow and the position in a local,
 -- the local is lent by `&mut` to `write`, for a lifetime of the call within the lifetime of the bytes (`LocalWriter.antt`,
 -- `Within.antt`), and its position is read when it is back. Then the writer is taken apart, and the borrow is owned again at its last
 -- list.
@@ -46,28 +46,28 @@ use denote.Triple.Table.{entered, cited}
 use denote.Triple.Walked.{says, Stays, stay-none, stay-slice, walkOf, goes-none, goes-slice, Walks, ends-at, walked, walk-meets}
 use denote.Exit.{yes}
 use Rattle.laws.specs.Answers.{Told}
 use Rattle.bits.specs.Fields.{toldRoom, toldWritten, writeAt}
-use Rattle.bits.specs.Held.{writeBy}
-use Rattle.bits.specs.declared.writer.BitWriter.{BitWriter}
+use Rattle.bitstream.specs.Held.{writeBy}
+use Rattle.bitstream.specs.declared.writer.BitWriter.{BitWriter}
 use Rattle.bits.specs.declared.Room.{Room as Answer}
 use Rattle.bits.specs.declared.Written.{Written}
-use Rattle.bits.proofs.writer.BitWriter as T
-use Rattle.bits.proofs.writer.BitWriter.Laws as T′
+use Rattle.bitstream.proofs.writer.BitWriter as T
+use Rattle.bitstream.proofs.writer.BitWriter.Laws as T′
 use Rattle.bits.proofs.Room as O
 use Rattle.bits.proofs.Room.Laws as O′
 use Rattle.bits.proofs.Written as S
 use Rattle.bits.proofs.Written.Laws as S′
 use Rattle.bits.proofs.RoundTrip.{length-written}
-use Rattle.bits.proofs.LocalWriter.{lays, lifts, val}
-use Rattle.bits.proofs.Within.{Toks, Out, lends, comes}
-use Rattle.bits.proofs.writer.BitWriter.write as core
-use Rattle.bits.proofs.writer.BitWriter.write.Symbol as core-def
-use Rattle.bits.proofs.writer.BitWriter.write.Symbol.{name as #core}
-use Rattle.bits.proofs.writer.BitWriter.write.Met as core-thm
-use Rattle.bits.proofs.writer.write_bits.Key.{name as #write-bits}
-use Rattle.bits.proofs.writer.write_bits as write-bits
-use Rattle.bits.proofs.writer.write_bits.Statement as stated
-use Rattle.bits.proofs.writer.write_bits.Code as code
+use Rattle.bitstream.proofs.LocalWriter.{lays, lifts, val}
+use Rattle.bitstream.proofs.Within.{Toks, Out, lends, comes}
+use Rattle.bitstream.proofs.writer.BitWriter.write as core
+use Rattle.bitstream.proofs.writer.BitWriter.write.Symbol as core-def
+use Rattle.bitstream.proofs.writer.BitWriter.write.Symbol.{name as #core}
+use Rattle.bitstream.proofs.writer.BitWriter.write.Met as core-thm
+use Rattle.bitstream.proofs.writer.write_bits.Key.{name as #write-bits}
+use Rattle.bitstream.proofs.writer.write_bits as write-bits
+use Rattle.bitstream.proofs.writer.write_bits.Statement as stated
+use Rattle.bitstream.proofs.writer.write_bits.Code as code
 
 abbrev stayed : Stays (write-bits.ended .signature .params) (write-bits.ended .kept)
 stayed = (stay-slice (0 ∷ []) tt (plain (λ _. u8)), (stay-none (λ _. usize) yes, (stay-none (λ _. u32) yes, (stay-none (λ _. u32) yes, tt))))
@@ -233,4 +233,4 @@ write-bits-spec 𝓤 H 𝓜 𝓖 𝓡 =
     entered 𝓤 H (tripleOf 𝓤 H (𝓖 .A) write-bits.signature (write-bits.spec 𝓤 H (𝓖 .A) (𝓜 .mem) (𝓡 .run)))
     (tables 𝓤 H 𝓜 𝓡 code.env .C) (tables 𝓤 H 𝓜 𝓡 code.env .Λ) #write-bits code.function (code.unfolded 𝓤 H 𝓜 𝓡)
     (write-bits-meets 𝓤 H (𝓖 .A) (givenOf 𝓤 H 𝓜 𝓖) (𝓜 .mem) (𝓡 .run) (tablesOf 𝓤 H 𝓜 (tables 𝓤 H 𝓜 𝓡 code.env))
-    (cited 𝓤 H (Core 𝓤 H (𝓖 .A) (𝓜 .mem) (𝓡 .run)) 𝓜 𝓡 code.env #core core-def.routine code.calls-bits·writer·BitWriter·write (core-thm.met 𝓤 H 𝓜 𝓖 𝓡)))
+    (cited 𝓤 H (Core 𝓤 H (𝓖 .A) (𝓜 .mem) (𝓡 .run)) 𝓜 𝓡 code.env #core core-def.routine code.calls-bitstream·writer·BitWriter·write (core-thm.met 𝓤 H 𝓜 𝓖 𝓡)))

@@ -19,9 +19,9 @@ use denote.Memory.{mem, cellAt, partOf}
 use denote.Ref.{NamedLft}
 use denote.Struct.Laws as LL
 use denote.Struct.Steps.{spelt}
-use Rattle.bits.specs.declared.reader.BitReader.{BitReader}
-use Rattle.bits.proofs.reader.BitReader as T
-use Rattle.bits.proofs.reader.BitReader.Laws as T′
+use Rattle.bitstream.specs.declared.reader.BitReader.{BitReader}
+use Rattle.bitstream.proofs.reader.BitReader as T
+use Rattle.bitstream.proofs.reader.BitReader.Laws as T′
 
 module _ {M : Type 1} (𝓤 : URA M) (H : Heap 𝓤) (A : Atoms 𝓤) (W : Given 𝓤 H A) where
   module _ (κ : Lft) (h : BitReader) (b : ℕ) where

@@ -1,4 +1,4 @@
--- `bits::writer::BitWriter::new` meets its contract: a walk of its MIR, by hand. The borrow of the slice goes into the result as it is,
+-- `bitstream::writer::BitWriter::new` meets its contract: a walk of its MIR, by hand. The borrow of the slice goes into the result as it is,
 -- beside the number 0.
 -- The parameter is spent: the result names its lifetime, so nothing is had of it at exit, and `bytes .entry` is all that the contract
 -- can say.
@@ -37,14 +37,14 @@ use denote.Triple.Spec.{Meets, tripleOf}
 use denote.Triple.Table.{entered}
 use denote.Triple.Walked.{says, Stays, stay-dropped, walkOf, goes-spent-slice, Walks, ends-at, walked, walk-meets}
 use denote.Exit.{no}
-use Rattle.bits.specs.Held.{writerOver}
-use Rattle.bits.specs.declared.writer.BitWriter.{BitWriter}
-use Rattle.bits.proofs.writer.BitWriter as T
-use Rattle.bits.proofs.writer.BitWriter.Laws as T′
-use Rattle.bits.proofs.writer.BitWriter.new.Key.{name as #new}
-use Rattle.bits.proofs.writer.BitWriter.new as new
-use Rattle.bits.proofs.writer.BitWriter.new.Statement as stated
-use Rattle.bits.proofs.writer.BitWriter.new.Code as code
+use Rattle.bitstream.specs.Held.{writerOver}
+use Rattle.bitstream.specs.declared.writer.BitWriter.{BitWriter}
+use Rattle.bitstream.proofs.writer.BitWriter as T
+use Rattle.bitstream.proofs.writer.BitWriter.Laws as T′
+use Rattle.bitstream.proofs.writer.BitWriter.new.Key.{name as #new}
+use Rattle.bitstream.proofs.writer.BitWriter.new as new
+use Rattle.bitstream.proofs.writer.BitWriter.new.Statement as stated
+use Rattle.bitstream.proofs.writer.BitWriter.new.Code as code
 
 abbrev stayed : Stays (new.ended .signature .params) (new.ended .kept)
 stayed = (stay-dropped (mutSliceOf (0 ∷ []) tt (plain (λ _. u8))) no, tt)

@@ -19,9 +19,9 @@ use denote.Memory.{mem, cellAt, partOf}
 use denote.Ref.{NamedLft}
 use denote.Struct.Laws as LL
 use denote.Struct.Steps.{spelt}
-use Rattle.bits.specs.declared.writer.BitWriter.{BitWriter}
-use Rattle.bits.proofs.writer.BitWriter as T
-use Rattle.bits.proofs.writer.BitWriter.Laws as T′
+use Rattle.bitstream.specs.declared.writer.BitWriter.{BitWriter}
+use Rattle.bitstream.proofs.writer.BitWriter as T
+use Rattle.bitstream.proofs.writer.BitWriter.Laws as T′
 
 module _ {M : Type 1} (𝓤 : URA M) (H : Heap 𝓤) (A : Atoms 𝓤) (W : Given 𝓤 H A) where
   module _ (κ : Lft) (h : BitWriter) (b : ℕ) where

@@ -1,4 +1,4 @@
--- `bits::writer::BitWriter::write` meets its contract: a walk of its MIR, by hand. The outer borrow is opened, which gives the struct's
+-- `bitstream::writer::BitWriter::write` meets its contract: a walk of its MIR, by hand. The outer borrow is opened, which gives the struct's
 -- cell and what the struct owns; of that the slice is lent again to `write_at`, for a lifetime that is made for the call, and comes back
 -- (`Again.antt`); the number that `write_at` returned is stored in the cell; and the outer borrow is closed at the new record.
 -- All that the proof knows of `write_at` is that it meets its contract.
@@ -48,25 +48,25 @@ use denote.Triple.Walked.{says, Stays, stay-ref, stay-none, walkOf, goes-ref, go
 use denote.Exit.{yes}
 use denote.Signature.{Slot, plain, namedLft}
 use denote.Signature.Struct.{makes}
 use Rattle.bits.specs.Fields.{Wrote, toldRoom, toldWritten, writeAt}
-use Rattle.bits.specs.Held.{writeBy}
-use Rattle.bits.specs.declared.writer.BitWriter.{BitWriter}
+use Rattle.bitstream.specs.Held.{writeBy}
+use Rattle.bitstream.specs.declared.writer.BitWriter.{BitWriter}
 use Rattle.bits.specs.declared.Written.{Written}
-use Rattle.bits.proofs.writer.BitWriter as T
-use Rattle.bits.proofs.writer.BitWriter.Laws as T′
+use Rattle.bitstream.proofs.writer.BitWriter as T
+use Rattle.bitstream.proofs.writer.BitWriter.Laws as T′
 use Rattle.bits.proofs.Written as S
 use Rattle.bits.proofs.Written.Laws as S′
 use Rattle.bits.proofs.Room as O
 use Rattle.bits.proofs.Room.Laws as O′
-use Rattle.bits.proofs.Again.{LentAgain, lends-again, comes-back}
+use Rattle.bitstream.proofs.Again.{LentAgain, lends-again, comes-back}
 use Rattle.bits.proofs.write_at as core
 use Rattle.bits.proofs.write_at.Symbol as core-def
 use Rattle.bits.proofs.write_at.Symbol.{name as #core}
 use Rattle.bits.proofs.write_at.Met as core-thm
-use Rattle.bits.proofs.writer.BitWriter.write.Key.{name as #write}
-use Rattle.bits.proofs.writer.BitWriter.write as write
-use Rattle.bits.proofs.writer.BitWriter.write.Statement as stated
-use Rattle.bits.proofs.writer.BitWriter.write.Code as code
+use Rattle.bitstream.proofs.writer.BitWriter.write.Key.{name as #write}
+use Rattle.bitstream.proofs.writer.BitWriter.write as write
+use Rattle.bitstream.proofs.writer.BitWriter.write.Statement as stated
+use Rattle.bitstream.proofs.writer.BitWriter.write.Code as code
 
 -- `BitWriter<'a>`, as the referent's place in the signature: 'a is the second of the signature's lifetimes, after the one of `&mut self`
 abbrev WriterS : Slot 2

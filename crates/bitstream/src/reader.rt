@@ -1,11 +1,11 @@
 // A reader that holds its bytes and a position, thin over `read_at`. A function over a struct that holds a reference is walked by hand, so its
 // body has one call and no branch: what is to be decided is decided by the function on a slice and a number.
-use crate::Bits;
-use crate::Read;
-use crate::read_at;
+use bits::Bits;
+use bits::Read;
+use bits::read_at;
 ghost use mathlib.Core.Path.{_≡_};
 ghost use Rattle.bits.specs.Fields.{toldBits, toldRead, readAt};
-ghost use Rattle.bits.specs.Held.{readerOver, readBy};
+ghost use Rattle.bitstream.specs.Held.{readerOver, readBy};
 
 // The bytes of a frame, and the position of the bit to be read next.
 pub struct BitReader<'a> {

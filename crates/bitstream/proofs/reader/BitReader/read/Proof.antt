@@ -1,4 +1,4 @@
--- `bits::reader::BitReader::read` meets its contract: a walk of its MIR, by hand. The borrow of the struct is opened, `read_at` is
+-- `bitstream::reader::BitReader::read` meets its contract: a walk of its MIR, by hand. The borrow of the struct is opened, `read_at` is
 -- called on the slice and the number that it holds, and the borrow is closed at the struct with the position that `read_at` returned;
 -- the bits are the result.
 -- The struct is Copy: what it owns is had twice, one copy is kept for the exit, and of the other what bytes owns goes to the callee,
@@ -49,24 +49,24 @@ use denote.Triple.Spec.{Meets, tripleOf}
 use denote.Triple.Table.{entered, cited}
 use denote.Triple.Walked.{says, Stays, stay-ref, stay-none, walkOf, goes-none, goes-ref, Walks, ends-at, walked, walk-meets}
 use denote.Exit.{yes}
 use Rattle.bits.specs.Fields.{Found, toldBits, toldRead, readAt}
-use Rattle.bits.specs.Held.{readBy}
-use Rattle.bits.specs.declared.reader.BitReader.{BitReader}
+use Rattle.bitstream.specs.Held.{readBy}
+use Rattle.bitstream.specs.declared.reader.BitReader.{BitReader}
 use Rattle.bits.specs.declared.Read.{Read}
-use Rattle.bits.proofs.reader.BitReader as T
-use Rattle.bits.proofs.reader.BitReader.Laws as T′
+use Rattle.bitstream.proofs.reader.BitReader as T
+use Rattle.bitstream.proofs.reader.BitReader.Laws as T′
 use Rattle.bits.proofs.Read as S
 use Rattle.bits.proofs.Read.Laws as S′
 use Rattle.bits.proofs.Bits as O
 use Rattle.bits.proofs.Bits.Laws as O′
 use Rattle.bits.proofs.read_at as core
 use Rattle.bits.proofs.read_at.Symbol as core-def
 use Rattle.bits.proofs.read_at.Symbol.{name as #core}
 use Rattle.bits.proofs.read_at.Met as core-thm
-use Rattle.bits.proofs.reader.BitReader.read.Key.{name as #read}
-use Rattle.bits.proofs.reader.BitReader.read as read
-use Rattle.bits.proofs.reader.BitReader.read.Statement as stated
-use Rattle.bits.proofs.reader.BitReader.read.Code as code
+use Rattle.bitstream.proofs.reader.BitReader.read.Key.{name as #read}
+use Rattle.bitstream.proofs.reader.BitReader.read as read
+use Rattle.bitstream.proofs.reader.BitReader.read.Statement as stated
+use Rattle.bitstream.proofs.reader.BitReader.read.Code as code
 
 -- `BitReader<'a>`, as the referent's place in the signature: 'a is the second of the signature's lifetimes, after the one of `&mut self`
 abbrev behind : Slot 2

@@ -1,12 +1,12 @@
 -- A reader and a writer that hold their bytes. From document 01, "Bits": "The reader over the frame holds its bytes and a position."
--- What is read and written stands in `Fields`. `at-last x l` is the borrow x, of the same bytes in memory, with the bytes l in them.
+-- What is read and written stands in `Fields` of the crate `bits`. `at-last x l` is the borrow x, of the same bytes in memory, with the bytes l in them.
 use Prim.Native.Nat.{ℕ}
 use mathlib.Core.List.{List}
 use denote.Ref.{RefT, now, at-last}
 use Rattle.laws.specs.Answers.{Told}
 use Rattle.bits.specs.Fields.{readAt, writeAt}
-use Rattle.bits.specs.declared.reader.BitReader.{BitReader}
-use Rattle.bits.specs.declared.writer.BitWriter.{BitWriter}
+use Rattle.bitstream.specs.declared.reader.BitReader.{BitReader}
+use Rattle.bitstream.specs.declared.writer.BitWriter.{BitWriter}
 
 -- a reader at the first bit
 unfoldable pub readerOver : RefT (List ℕ) → BitReader

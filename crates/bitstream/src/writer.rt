@@ -1,10 +1,10 @@
 // A writer that holds its bytes and a position, thin over `write_at`, as the reader is over `read_at`.
-use crate::Room;
-use crate::Written;
-use crate::write_at;
+use bits::Room;
+use bits::Written;
+use bits::write_at;
 ghost use mathlib.Core.Path.{_≡_};
 ghost use Rattle.bits.specs.Fields.{toldRoom, toldWritten, writeAt};
-ghost use Rattle.bits.specs.Held.{writerOver, writeBy};
+ghost use Rattle.bitstream.specs.Held.{writerOver, writeBy};
 
 // The bytes lent for a frame, and the position of the bit to be written next.
 pub struct BitWriter<'a> {
