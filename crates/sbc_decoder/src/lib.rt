@@ -7,6 +7,7 @@ use codec::Progress;
 use codec::refusal_or_progress;
 use laws::least;
 use sbc_decode_frame::decode_frame;
+use sbc_decode_frame::leave_out;
 use sbc_filterbank::Synthesis;
 use sbc_look::Front;
 use sbc_look::WholeFrame;
@@ -280,17 +281,4 @@ fn turned_away(decoder: SbcDecoder, error: Error) -> TurnResult
 {
     let outcome = Outcome::Refused(error);
     TurnResult { outcome, decoder }
-}
-
-// Leaves out the first samples of a frame's: the others move to the front, and the places behind them keep what they held.
-fn leave_out(output: &mut [i16], gone: usize, samples: usize)
-    requires { ⌜ (gone ≤ samples) × (samples ≤ length (now output)) ⌝ }
-    ensures { λ _. ⌜ now (output .exit) ≡ take (samples - gone) (drop gone (now (output .entry))) ++ drop (samples - gone) (now (output .entry)) ⌝ }
-{
-    if gone == 0 {
-        return;
-    }
-    for i in 0..samples - gone {
-        output[i] = output[gone + i];
-    }
 }

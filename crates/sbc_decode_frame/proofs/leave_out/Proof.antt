@@ -14,8 +14,8 @@ use lib.Seq.{getD-drop, paste, paste-zero, paste-suc, length-paste, drop-paste}
 use mir.Syntax.{w16}
 use mir.Val.{toZ, ofZ}
 use mir.Facts.{toZ-ofZ}
-use Rattle.sbc_decoder.proofs.leave_out.Statement.{statement}
-use Rattle.sbc_decoder.proofs.leave_out.Tie as tie
+use Rattle.sbc_decode_frame.proofs.leave_out.Statement.{statement}
+use Rattle.sbc_decode_frame.proofs.leave_out.Tie as tie
 
 module _ (o₀ o : List ℤ) (gone i : ℕ) (fits : gone + i ≤ length o₀) (e : o ≡ paste o₀ 0 (drop gone o₀) i) where
   -- nothing is longer or shorter
