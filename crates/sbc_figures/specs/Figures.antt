@@ -13,8 +13,8 @@ use Rattle.sbc_parameters.specs.Parameters.{highQuality, msbc, sampleRates, blo
 use Rattle.sbc_parameters.specs.Sizes.{joinCount, blockBits, audioBits, frameLength, samplesPerChannel, frameSamples}
 use Rattle.sbc_parameters.specs.Header.{fromSettings, parse}
 use Rattle.sbc_parameters.specs.Seek.{seekFrame, seekOffset, seekSkip}
-use Rattle.sbc_allocation.specs.Need.{need}
-use Rattle.sbc_allocation.specs.Share.{sum, above, heights, levelPart, levelBits, descend, greatestNeed, leastNeed, levelOf, baseBits, roundGain, roundBits, lastBit, shareAt, share}
+use Rattle.sbc_need.specs.Need.{need}
+use Rattle.sbc_share.specs.Share.{sum, above, heights, levelPart, levelBits, descend, greatestNeed, leastNeed, levelOf, baseBits, roundGain, roundBits, lastBit, shareAt, share}
 use Rattle.sbc_allocation.specs.Allocate.{channelNeeds, allocateBy, allocate}
 use Rattle.sbc_quantizer.specs.Quantizing.{firstFrom, scaleFactor, quantize, reconstruct}
 use Rattle.sbc_decoder.specs.Decode.{newDecoder, withParameters}
