@@ -18,11 +18,11 @@ use Rattle.sbc_parameters.specs.declared.SbcChannelMode.the-variants.{Mono, Dua
 use Rattle.sbc_parameters.specs.declared.SbcParameters.{SbcParameters}
 use Rattle.sbc_parameters.specs.Parameters.{channels, maximumBitpool, accepted}
 use Rattle.sbc_parameters.proofs.Accepted.{ranges}
-use Rattle.sbc_allocation.specs.Need.{need}
-use Rattle.sbc_allocation.specs.Share.{sum, share}
+use Rattle.sbc_need.specs.Need.{need}
+use Rattle.sbc_share.specs.Share.{sum, share}
 use Rattle.sbc_allocation.specs.Allocate.{channelNeeds, leftFirst, channelRow, rowsTogether, allocateBy, allocate, allocationTable}
 use Rattle.sbc_allocation.specs.Shares.{_∈_, Place, placesOf, groupsBy, groups, entryAt, needAt, Fair, SharesFair}
-use Rattle.sbc_allocation.proofs.Sharing.{ByNeed, share-by-need}
+use Rattle.sbc_share.proofs.Sharing.{ByNeed, share-by-need}
 use Rattle.sbc_allocation.proofs.Rows.{length-channelNeeds, length-leftFirst, length-channelRow, allocate-16, table-at}
 
 -- ---- the places of a channel

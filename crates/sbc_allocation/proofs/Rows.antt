@@ -13,10 +13,10 @@ use Rattle.sbc_parameters.specs.declared.SbcChannelMode.{SbcChannelMode}
 use Rattle.sbc_parameters.specs.declared.SbcChannelMode.the-variants.{Mono, DualChannel, Stereo, JointStereo}
 use Rattle.sbc_parameters.specs.declared.SbcParameters.{SbcParameters}
 use Rattle.sbc_parameters.specs.Parameters.{channelsOf, channels}
-use Rattle.sbc_allocation.specs.Need.{need}
-use Rattle.sbc_allocation.specs.Share.{share}
+use Rattle.sbc_need.specs.Need.{need}
+use Rattle.sbc_share.specs.Share.{share}
 use Rattle.sbc_allocation.specs.Allocate.{channelNeeds, leftFirst, channelRow, rowsTogether, allocateBy, allocate, tableRow, allocationTable}
-use Rattle.sbc_allocation.proofs.Sharing.{share-16, length-share}
+use Rattle.sbc_share.proofs.Sharing.{share-16, length-share}
 
 -- ---- lengths
 pub length-channelNeeds : (p : SbcParameters) (factors : List ℕ) → length (channelNeeds p factors) ≡ min (p .subbands) (length factors)

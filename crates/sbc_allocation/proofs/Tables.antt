@@ -1,4 +1,5 @@
--- What the code has in arrays: a group's bits with zeros behind them in an array of 16, a channel's needs in one of 8, and rows of the table.
+-- What the code has in arrays: a channel's needs in one of 8, both channels' in one of 16, and rows of the table, cut from a group's bits with
+-- zeros behind them.
 -- Assumes nothing.
 use mathlib.Core.Path.{_≡_, refl, sym, ap, ap₂, _∙_}
 use mathlib.Core.List.{List, [], _∷_, _++_, map, map-append}
@@ -9,31 +10,13 @@ use lib.ListN.{length, getD, take, set, replicate, length-append, length-replica
 use lib.Seq.{take-all, take-suc-set, getD-take, length-take-le}
 use Rattle.laws.specs.Lists.{collect, build}
 use Rattle.sbc_parameters.specs.declared.SbcParameters.{SbcParameters}
-use Rattle.sbc_allocation.specs.Need.{need}
-use Rattle.sbc_allocation.specs.Share.{sum, levelOf, baseBits, roundBits, lastBit, shareAt, share}
+use Rattle.sbc_need.specs.Need.{need}
+use Rattle.sbc_share.specs.Share.{share}
+use Rattle.sbc_share.specs.Raised.{lowered}
+use Rattle.sbc_share.proofs.Sharing.{length-share}
 use Rattle.sbc_allocation.specs.Allocate.{channelNeeds, leftFirst, channelRow, tableRow}
-use Rattle.sbc_allocation.specs.Raised.{lowered, excesses, entries}
-use Rattle.sbc_allocation.proofs.Levels.{heights-lowered}
-use Rattle.sbc_allocation.proofs.Sharing.{length-round, length-share}
+use Rattle.sbc_allocation.specs.Entries.{entries}
 use Rattle.sbc_allocation.proofs.Rows.{length-channelNeeds, length-channelRow}
-
--- ---- zeros behind a group's bits
-pub sum-padded : (xs : List ℕ) (n : ℕ) → sum (xs ++ replicate n 0) ≡ sum xs
-unfolding sum
-sum-padded [] zero = refl
-sum-padded [] (suc n) = omega (arith, sum-padded [] n)
-sum-padded (x ∷ xs) n = omega (arith, sum-padded xs n)
-
-last-any : (left : ℕ) (xs : List ℕ) → 0 < left → lastBit left xs ≡ lastBit 1 xs
-unfolding lastBit
-last-any zero xs h = absurd (omega arith)
-last-any (suc left) [] h = refl
-last-any (suc left) (x ∷ xs) h = rw (last-any (suc left) xs h) refl
-
-length-excesses : (level : ℕ) (ns : List ℕ) → length (excesses level ns) ≡ length ns
-unfolding excesses
-length-excesses level [] = refl
-length-excesses level (n ∷ ns) = ap suc (length-excesses level ns)
 
 -- ---- a group of no subbands
 nothing : {A : Type 0} (xs : List A) → length xs ≡ 0 → xs ≡ []
@@ -45,27 +28,6 @@ needs-none p factors long h = nothing (channelNeeds p factors) (omega (arith, le
 
 pub share-none : (bitpool : ℕ) → share [] bitpool ≡ []
 share-none bitpool = nothing (share [] bitpool) (length-share [] bitpool)
-
--- ---- the shares, from the level that was found and the bits of the round
-module _ (ns : List ℕ) (bitpool at : ℕ) (is : lowered at ≡ levelOf (map lowered ns) bitpool) where
-  abbrev pub rounded : List ℕ
-  rounded = roundBits (excesses at ns) (bitpool - sum (map baseBits (excesses at ns)))
-
-  share-at : share (map lowered ns) bitpool ≡ lastBit (bitpool - sum rounded) rounded
-  unfolding share shareAt
-  share-at = rw (← is, heights-lowered at ns) refl
-
-  pub with-last : sum rounded < bitpool → share (map lowered ns) bitpool ≡ lastBit 1 rounded
-  with-last h = share-at ∙ last-any (bitpool - sum rounded) rounded (omega arith)
-
-  pub without-last : bitpool ≤ sum rounded → share (map lowered ns) bitpool ≡ rounded
-  unfolding lastBit
-  without-last h =
-      let none : bitpool - sum rounded ≡ 0 = omega arith in
-      share-at ∙ ap (λ (left : ℕ). lastBit left rounded) none
-
-  pub length-rounded : length rounded ≡ length ns
-  length-rounded = length-round (excesses at ns) (bitpool - sum (map baseBits (excesses at ns))) ∙ length-excesses at ns
 
 -- ---- a channel's needs: one more is written
 pub needs-step : (p : SbcParameters) (factors needs : List ℕ) (i n : ℕ) → i < length needs → lowered n ≡ need p (getD factors i 0) i

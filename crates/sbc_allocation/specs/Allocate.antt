@@ -7,8 +7,8 @@ use Rattle.laws.specs.Lists.{build}
 use Rattle.sbc_parameters.specs.declared.SbcChannelMode.{SbcChannelMode}
 use Rattle.sbc_parameters.specs.declared.SbcChannelMode.the-variants.{Mono, DualChannel, Stereo, JointStereo}
 use Rattle.sbc_parameters.specs.declared.SbcParameters.{SbcParameters}
-use Rattle.sbc_allocation.specs.Need.{need}
-use Rattle.sbc_allocation.specs.Share.{share}
+use Rattle.sbc_need.specs.Need.{need}
+use Rattle.sbc_share.specs.Share.{share}
 
 -- the needs of a channel with these scale factors, one a subband
 unfoldable pub channelNeeds : SbcParameters → List ℕ → List ℤ

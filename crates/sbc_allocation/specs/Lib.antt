@@ -1,5 +1,3 @@
-pub mod Need
-pub mod Share
 pub mod Allocate
 pub mod Shares
-pub mod Raised
+pub mod Entries

@@ -18,9 +18,9 @@ use Rattle.sbc_parameters.specs.declared.SbcChannelMode.the-variants.{Mono, Dua
 use Rattle.sbc_parameters.specs.declared.SbcParameters.{SbcParameters}
 use Rattle.sbc_parameters.specs.Parameters.{channelsOf, separate, channels, accepted}
 use Rattle.sbc_parameters.specs.Sizes.{blockBits}
-use Rattle.sbc_allocation.specs.Share.{sum}
 use Rattle.sbc_parameters.proofs.Accepted.{channels-range, ranges}
-use Rattle.sbc_allocation.specs.Need.{need}
+use Rattle.sbc_need.specs.Need.{need}
+use Rattle.sbc_share.specs.Share.{sum}
 use Rattle.sbc_allocation.specs.Allocate.{channelNeeds, allocateBy, allocate, allocationTable}
 use Rattle.sbc_allocation.specs.Shares.{_∈_, Place, placesOf, groupsBy, groups, entryAt}
 use Rattle.sbc_allocation.proofs.Rows.{length-allocate, length-row, table-at}

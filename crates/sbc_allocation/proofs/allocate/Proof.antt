@@ -11,7 +11,7 @@ use lib.ListN.{getD}
 use Rattle.sbc_parameters.specs.declared.SbcChannelMode.{SbcChannelMode}
 use Rattle.sbc_parameters.specs.declared.SbcChannelMode.the-variants.{Mono, DualChannel, Stereo, JointStereo}
 use Rattle.sbc_parameters.specs.Parameters.{channelsOf, separate}
-use Rattle.sbc_allocation.specs.Share.{share}
+use Rattle.sbc_share.specs.Share.{share}
 use Rattle.sbc_allocation.specs.Allocate.{channelNeeds, rowsTogether, allocateBy, allocate, tableRow, allocationTable}
 use Rattle.sbc_allocation.proofs.allocate.Statement.{statement}
 use Rattle.sbc_allocation.proofs.allocate.Tie as tie

@@ -8,10 +8,10 @@ use native.Mathlib.Omega.{arith}
 use borrow.Author.Needs.{needs}
 use lib.ListN.{length, take, replicate, length-map}
 use lib.Seq.{length-take-le}
-use Rattle.sbc_allocation.specs.Share.{share}
-use Rattle.sbc_allocation.specs.Raised.{lowered}
+use Rattle.sbc_share.specs.Share.{share}
+use Rattle.sbc_share.specs.Raised.{lowered}
 use Rattle.sbc_allocation.specs.Allocate.{channelNeeds, tableRow}
-use Rattle.sbc_allocation.proofs.Sharing.{length-share}
+use Rattle.sbc_share.proofs.Sharing.{length-share}
 use Rattle.sbc_allocation.proofs.Tables.{AtLeast, needs-none, share-none, take-at-least, row-alone, first-entries}
 use Rattle.sbc_allocation.proofs.allocate_channel.Statement.{statement}
 use Rattle.sbc_allocation.proofs.allocate_channel.Tie as tie

@@ -9,10 +9,10 @@ use borrow.Author.Needs.{needs}
 use lib.ListN.{length, take, replicate, length-map}
 use lib.IntN.{ℤ}
 use lib.Seq.{length-take-le}
-use Rattle.sbc_allocation.specs.Share.{share}
-use Rattle.sbc_allocation.specs.Raised.{lowered}
+use Rattle.sbc_share.specs.Share.{share}
+use Rattle.sbc_share.specs.Raised.{lowered}
 use Rattle.sbc_allocation.specs.Allocate.{channelNeeds, leftFirst, channelRow, rowsTogether, tableRow}
-use Rattle.sbc_allocation.proofs.Sharing.{length-share}
+use Rattle.sbc_share.proofs.Sharing.{length-share}
 use Rattle.sbc_allocation.proofs.Rows.{length-leftFirst}
 use Rattle.sbc_allocation.proofs.Tables.{AtLeast, needs-none, share-none, take-at-least, leftFirst-at-least, take-leftFirst, map-leftFirst}
 use Rattle.sbc_allocation.proofs.Tables.{row-channel, left-entries, right-entries, both-entries}

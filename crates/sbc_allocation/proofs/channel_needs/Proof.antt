@@ -9,8 +9,8 @@ use borrow.Author.Count.{below-more}
 use lib.ListN.{length, getD, take, set, length-set}
 use lib.Seq.{getD-set-same, getD-set-other}
 use Rattle.laws.specs.Lists.{collect, build}
-use Rattle.sbc_allocation.specs.Need.{need}
-use Rattle.sbc_allocation.specs.Raised.{lowered}
+use Rattle.sbc_need.specs.Need.{need}
+use Rattle.sbc_share.specs.Raised.{lowered}
 use Rattle.sbc_allocation.specs.Allocate.{channelNeeds}
 use Rattle.sbc_allocation.proofs.Tables.{needs-step}
 use Rattle.sbc_allocation.proofs.channel_needs.Statement.{statement}

@@ -5,10 +5,10 @@ use native.Mathlib.Omega.{arith}
 use lib.IntN.{pos, _+ℤ_, _-ℤ_, +ℤ-negℤ-cancel}
 use mir.Syntax.{w32}
 use mir.Val.{toZ, ofZ}
-use Rattle.sbc_allocation.specs.Need.{need}
-use Rattle.sbc_allocation.specs.Raised.{lowered}
+use Rattle.sbc_need.specs.Need.{need}
+use Rattle.sbc_share.specs.Raised.{lowered}
 use Rattle.laws.proofs.Abs.{read-back}
-use Rattle.sbc_allocation.proofs.Needs.{Raises, need-raises}
+use Rattle.sbc_need.proofs.Needs.{Raises, need-raises}
 use borrow.Author.Needs.{needs}
 use Rattle.sbc_allocation.proofs.raised_need.Statement.{statement}
 use Rattle.sbc_allocation.proofs.raised_need.Tie as tie
