@@ -12,14 +12,8 @@ use Rattle.crc8.specs.Checksum.{crcStep, crcBits}
 use Rattle.sbc_parameters.specs.Parameters.{highQuality, msbc, sampleRates, blockCounts, channelModes, allocations, subbandCounts, modeNumber, allocationNumber, maximumBitpool, isMsbc, msbcTests, fieldTests, accepted, validate}
 use Rattle.sbc_parameters.specs.Sizes.{joinCount, blockBits, audioBits, frameLength, samplesPerChannel, frameSamples}
 use Rattle.sbc_parameters.specs.Header.{fromSettings, parse}
-<<<<<<< HEAD
-use Rattle.sbc_allocation.specs.Need.{need}
-use Rattle.sbc_allocation.specs.Share.{sum, above, heights, levelPart, levelBits, descend, greatestNeed, leastNeed, levelOf, baseBits, roundGain, roundBits, lastBit, shareAt, share}
-=======
-use Rattle.sbc_parameters.specs.Seek.{seekFrame, seekOffset, seekSkip}
 use Rattle.sbc_need.specs.Need.{need}
 use Rattle.sbc_share.specs.Share.{sum, above, heights, levelPart, levelBits, descend, greatestNeed, leastNeed, levelOf, baseBits, roundGain, roundBits, lastBit, shareAt, share}
->>>>>>> 601700e888842939e3b3b50eeeb98ad635f322ec
 use Rattle.sbc_allocation.specs.Allocate.{channelNeeds, allocateBy, allocate}
 use Rattle.sbc_quantizer.specs.Quantizing.{firstFrom, scaleFactor, quantize, reconstruct}
 use Rattle.sbc_decoder.specs.Decode.{newDecoder, withParameters}
