@@ -3,7 +3,6 @@ pub mod Streams
 pub mod Encoded
 pub mod Looking
 pub mod Accepted
-pub mod Refusals
 pub mod NextCall
 pub mod Untouched
 pub mod Played

@@ -24,7 +24,7 @@ use Rattle.sbc_seek.specs.declared.LastParameters.the-variants.{None, Some}
 use Rattle.sbc_decoder.specs.declared.SbcDecoder.{SbcDecoder}
 use Rattle.sbc_frame.specs.Decoding.{synthesisHistories}
 use Rattle.sbc_decoder.proofs.Taking.{decode-induction}
-use Rattle.sbc.proofs.Refusals.{decode-refused}
+use Rattle.sbc_decoder.proofs.Refusals.{decode-refused}
 use Rattle.sbc_abi.specs.Numbers.{noNumbers, codedNumbers}
 use Rattle.sbc_abi.specs.Decoder.{isBlank, isHeld, isDecoder, lastIn, synthesisOf, decoderIn, heldNumber, heldNumbers, absent, stateOf, DecodeAfter, afterDecode, decodeState, afterSeek, seekState}
 use Rattle.sbc_abi.specs.declared.ParameterNumbers.{ParameterNumbers}

@@ -14,7 +14,7 @@ use Rattle.laws.proofs.Lists.{build-is}
 use Rattle.codec.specs.declared.Progress.{Progress}
 use Rattle.sbc_encoder.specs.Encode.{encode}
 use Rattle.sbc_encoder.specs.declared.SbcEncoder.{SbcEncoder}
-use Rattle.sbc.proofs.Refusals.{encode-refused}
+use Rattle.sbc_encoder.proofs.Refusals.{encode-refused}
 use Rattle.sbc_abi.specs.Numbers.{isSet, codedNumbers}
 use Rattle.sbc_abi.specs.Encoder.{encoderIn, absent, stateOf, EncodeAfter, afterEncode, encodeState}
 use Rattle.sbc_abi.specs.declared.EncoderState.{EncoderState}

@@ -1,4 +1,4 @@
--- A refusal of decode, of encode and of seek leaves all unchanged: the encoder or decoder, and the output where the call has one.
+-- A refusal of decode and of seek leaves all unchanged: the decoder, and the output of decode.
 -- Assumes nothing.
 use Prim.Native.Nat.{ℕ}
 use mathlib.Core.Path.{_≡_, refl}
@@ -7,17 +7,14 @@ use native.Mathlib.Omega.{arith}
 use lib.IntN.{ℤ}
 use Rattle.laws.specs.Answers.{Told, gives, refuses}
 use Rattle.codec.specs.Answers.{progressOf, addProgress}
-use Rattle.sbc_encoder.specs.Encode.{encodeFrames, encode}
 use Rattle.sbc_decoder.specs.Decode.{decodeAll, decode}
 use Rattle.sbc_seek.specs.Seek.{seekRequest}
 use Rattle.sbc_seek.specs.declared.SeekRequest.{SeekRequest}
 use Rattle.sbc_decoder.specs.Seek.{seekAnswered, seek}
-use Rattle.sbc_encoder.specs.declared.SbcEncoder.{SbcEncoder}
 use Rattle.sbc_decoder.specs.declared.SbcDecoder.{SbcDecoder}
 use Rattle.laws.proofs.Answers.{gives-refuses}
 use Rattle.sbc_decoder.proofs.Answering.{refused-none}
 use Rattle.sbc_decoder.proofs.Taking.{length-some, decode-induction}
-use Rattle.sbc_encoder.proofs.Writing.{encode-cases}
 
 -- ---- decode
 
@@ -37,16 +34,6 @@ unfolding decode
 decode-refused d input output n q =
     let r = decodeAll d input output in
     idle d input output (refused-none (r .progress) (r .ending) n q)
-
--- ---- encode
-
--- a refused encode call leaves the encoder and the output
-pub encode-refused : (e : SbcEncoder) (pcm : List ℤ) (output : List ℕ) (n : ℕ) → encode e pcm output .answer ≡ refuses n
-    → (encode e pcm output .encoder ≡ e) × (encode e pcm output .output ≡ output)
-unfolding encodeFrames
-encode-refused e pcm output n =
-    encode-cases (λ r. r .answer ≡ refuses n → (r .encoder ≡ e) × (r .output ≡ output)) e pcm output
-    (λ a q. (refl, refl)) (λ a l q. (refl, refl)) (λ a l q. absurd (gives-refuses _ n q))
 
 -- ---- seek
 
