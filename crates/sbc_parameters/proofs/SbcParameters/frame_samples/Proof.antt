@@ -1,5 +1,7 @@
 -- `SbcParameters::frame_samples` meets its contract: both factors are small.
 -- Assumes nothing.
+use Prim.Native.Nat.{_*_}
+use mathlib.Core.Path.{ap₂, _∙_}
 use native.Mathlib.Nat.{mul-le-mul}
 use native.Mathlib.Omega.{arith}
 use Rattle.sbc_parameters.specs.Sizes.{samplesPerChannel, frameSamples}
@@ -17,11 +19,11 @@ wide-requires : tie.Need-wide-requires
 wide-requires c κs = search needs
 
 mul-result : tie.Need-mul-result
-mul-result c = omega (arith, mul-le-mul {n₁ = c .before .before .product .result} {m₁ = c .wide .result} {n₂ = 65025} {m₂ = 255} (omega arith) (omega arith))
+mul-result c = omega (arith, mul-le-mul (c .before .before .product .ensures .1) (c .wide .ensures .1))
 
 returns : tie.Need-returns
 unfolding samplesPerChannel frameSamples
-returns c = cc
+returns c = ap₂ (λ x y. x * y) (c .before .before .product .ensures .0) (c .wide .ensures .0 ∙ c .before .channels .ensures)
 
 pub frame-samples-spec : {M : Type 1} → statement M
 frame-samples-spec =
