@@ -2,7 +2,7 @@
 -- and scale factors is what `codedAt` says.
 -- Assumes nothing.
 use Prim.Native.Nat.{ℕ, zero, suc, _+_, _*_, _≤_, _<_, max}
-use mathlib.Core.Path.{_≡_, refl, sym, ap, ap₂, _∙_, fun-ext}
+use mathlib.Core.Path.{_≡_, refl, sym, ap, ap₂, subst, _∙_, fun-ext}
 use mathlib.Core.Bool.{Bool, true, false}
 use mathlib.Core.List.{List, [], _∷_}
 use native.Mathlib.Omega.{arith}
@@ -42,9 +42,12 @@ unfolding factorsIn factorOf
 row-factor p xs f s hs h = getD-build 8 _ s 0 hs ∙ ap scaleFactor (greatest-ext (p .blocks) _ _ (λ b hb. ap natAbs (h b hb)))
 
 -- and at most 15
-pub factors-small : (n : ℕ) (xs : List ℤ) (s : ℕ) → entry (factorsIn n xs) s ≤ 15
+factors-small : (n : ℕ) (xs : List ℤ) (s : ℕ) → entry (factorsIn n xs) s ≤ 15
 unfolding factorsIn
 factors-small n xs s = build-all (λ (k : ℕ). k ≤ 15) 8 _ s 0 (λ j. scale-factor-le _) (lit≤ tt)
+
+pub factors-low : (n : ℕ) (xs : List ℤ) {row : List ℕ} → row ≡ factorsIn n xs → (s : ℕ) → entry row s ≤ 15
+factors-low n xs e s = subst (λ (row : List ℕ). entry row s ≤ 15) (sym e) (factors-small n xs s)
 
 -- so is one that is picked
 picked-small : (flags plain joined : List ℕ) → ((s : ℕ) → entry plain s ≤ 15) → ((s : ℕ) → entry joined s ≤ 15) → (s : ℕ)
@@ -233,3 +236,42 @@ module _ (p : SbcParameters) (a : accepted p ≡ true) (samples : ℕ → List (
         sample b zero s hb hc hs = hl b s hb hs ∙ coded-sample b 0 s hb hc hs
         sample b (suc zero) s hb hc hs = hr b s hb hs ∙ coded-sample b 1 s hb hc hs
         sample b (suc (suc c)) s hb hc hs = absurd (omega (arith, two))
+
+-- ---- a frame whose subbands may be joined, as the code has it: each row and array by those before it
+pub record Joint (p : SbcParameters) (l r sums differences : List ℤ) (plain-left plain-right joined-left joined-right flags lf rf : List ℕ)
+    (left right : List ℤ) : Type 0 where
+  pub sums-are : sums ≡ halfSums l r
+  pub differences-are : differences ≡ halfDifferences l r
+  pub plain-left-is : plain-left ≡ factorsIn (p .blocks) l
+  pub plain-right-is : plain-right ≡ factorsIn (p .blocks) r
+  pub joined-left-is : joined-left ≡ factorsIn (p .blocks) sums
+  pub joined-right-is : joined-right ≡ factorsIn (p .blocks) differences
+  pub flags-are : flags ≡ joinRow (p .subbands) plain-left plain-right joined-left joined-right
+  pub left-factors-are : lf ≡ pickedRow flags plain-left joined-left
+  pub right-factors-are : rf ≡ pickedRow flags plain-right joined-right
+  pub left-is : (b s : ℕ) → b < p .blocks → s < 8 → sampleIn left b s ≡ (if eqb (entry flags s) 1 then sampleIn sums b s else sampleIn l b s)
+  pub right-is : (b s : ℕ) → b < p .blocks → s < 8
+      → sampleIn right b s ≡ (if eqb (entry flags s) 1 then sampleIn differences b s else sampleIn r b s)
+
+-- is what is coded of it
+pub joint-is : {p : SbcParameters} {l r sums differences : List ℤ} {plain-left plain-right joined-left joined-right flags lf rf : List ℕ}
+    {left right : List ℤ} → accepted p ≡ true → 0 < joinCount p
+    → Joint p l r sums differences plain-left plain-right joined-left joined-right flags lf rf left right
+    → (CodingRows flags lf rf) × ((samples : ℕ → List (List ℤ)) → ChannelsIn p samples l r → CodingIn p samples flags lf rf left right)
+joint-is a some j =
+    rw (
+      j .left-factors-are,
+      j .right-factors-are,
+      j .flags-are,
+      j .plain-left-is,
+      j .plain-right-is,
+      j .joined-left-is,
+      j .joined-right-is,
+      j .sums-are,
+      j .differences-are,
+    ) (
+      joint-rows _ _ _ _ _ _,
+      λ samples given. joint-coding _ a samples _ _ given some _ _
+          (rw (j .flags-are, j .plain-left-is, j .plain-right-is, j .joined-left-is, j .joined-right-is, j .sums-are, j .differences-are) at (j .left-is))
+          (rw (j .flags-are, j .plain-left-is, j .plain-right-is, j .joined-left-is, j .joined-right-is, j .sums-are, j .differences-are) at (j .right-is)),
+    )

@@ -1,10 +1,10 @@
--- `sbc_encode_frame::encoding::code_joint` meets its contract.
+-- `sbc_encode_frame::encoding::code_joint` meets its contract: what it has in the end is `Joint`.
 -- Assumes nothing.
 use Prim.Native.Nat.{_≤_}
 use native.Mathlib.Omega.{arith}
 use borrow.Author.Needs.{needs}
 use Rattle.sbc_parameters.proofs.Accepted.{ranges}
-use Rattle.sbc_encode_frame.proofs.Chosen.{factors-small, joint-rows, joint-coding}
+use Rattle.sbc_encode_frame.proofs.Chosen.{factors-low, joint-is}
 use Rattle.sbc_encode_frame.proofs.encoding.code_joint.Statement.{statement}
 use Rattle.sbc_encode_frame.proofs.encoding.code_joint.Tie as tie
 
@@ -44,10 +44,10 @@ join-flags-requires c κs =
     let sizes = ranges _ (s .pre .0) in (
       omega (arith, sizes .subbands-low),
       sizes .subbands-high,
-      λ s. rw (after-plain .before .factors-of .ensures) (factors-small _ _ s),
-      λ s. rw (after-plain .factors-of2 .ensures) (factors-small _ _ s),
-      λ s. rw (after-factors .before .before .factors-of3 .ensures) (factors-small _ _ s),
-      λ s. rw (after-factors .factors-of4 .ensures) (factors-small _ _ s),
+      factors-low _ _ (after-plain .before .factors-of .ensures),
+      factors-low _ _ (after-plain .factors-of2 .ensures),
+      factors-low _ _ (after-factors .before .before .factors-of3 .ensures),
+      factors-low _ _ (after-factors .factors-of4 .ensures),
     )
 
 pick-samples-requires : tie.Need-pick-samples-requires
@@ -75,29 +75,20 @@ returns c =
     let after-plain = after-factors .before .before .before .before in
     let after-sums = after-plain .before .before .before in
     let s = after-sums .before .before in
-    let sums = after-sums .half-sums .ensures in
-    let differences = after-plain .before .before .half-differences .ensures in
-    let plain-left = after-plain .before .factors-of .ensures in
-    let plain-right = after-plain .factors-of2 .ensures in
-    let joined-left = after-factors .before .before .factors-of3 .ensures in
-    let joined-right = after-factors .factors-of4 .ensures in
-    let flags = after-flags .join-flags .ensures in
-    rw (
-      c .before .before .before .before .pick-row .ensures,
-      c .pick-row2 .ensures,
-      flags,
-      plain-left,
-      plain-right,
-      joined-left,
-      joined-right,
-      sums,
-      differences,
-    ) (
-      joint-rows _ _ _ _ _ _,
-      λ samples given. joint-coding _ (s .pre .0) samples _ _ given (s .pre .1) _ _
-          (rw (flags, plain-left, plain-right, joined-left, joined-right, sums, differences) at (after-left .pick-samples .ensures .1))
-          (rw (flags, plain-left, plain-right, joined-left, joined-right, sums, differences) at (after-right .pick-samples2 .ensures .1)),
-    )
+    joint-is (s .pre .0) (s .pre .1)
+    (record {
+      sums-are = after-sums .half-sums .ensures;
+      differences-are = after-plain .before .before .half-differences .ensures;
+      plain-left-is = after-plain .before .factors-of .ensures;
+      plain-right-is = after-plain .factors-of2 .ensures;
+      joined-left-is = after-factors .before .before .factors-of3 .ensures;
+      joined-right-is = after-factors .factors-of4 .ensures;
+      flags-are = after-flags .join-flags .ensures;
+      left-factors-are = c .before .before .before .before .pick-row .ensures;
+      right-factors-are = c .pick-row2 .ensures;
+      left-is = after-left .pick-samples .ensures .1;
+      right-is = after-right .pick-samples2 .ensures .1;
+    })
 
 pub code-joint-spec : {M : Type 1} → statement M
 code-joint-spec =
