@@ -21,14 +21,15 @@ use Rattle.sbc_frame.specs.Fields.{Fields, WellFormed}
 use Rattle.sbc_frame.specs.Layout.{pack, unpack}
 use Rattle.sbc_frame.proofs.Written.{checksum-pack, parse-pack}
 use Rattle.sbc_frame.proofs.Reading.{unpack-pack}
-use Rattle.sbc_look.specs.Look.{cut, whole, lookBehind, look}
-use Rattle.sbc_decoder.specs.Decode.{refused, play, unchanged, shortStep, turnAt, decodeNext}
+use Rattle.sbc_look.specs.Look.{cut, whole, lookParsed, look}
+use Rattle.sbc_look.specs.Next.{nextShort, nextWhole, nextAt, next}
+use Rattle.sbc_decoder.specs.Decode.{refused, play, unchanged, turnBy, decodeNext}
 use Rattle.sbc_decoder.specs.declared.SbcDecoder.{SbcDecoder}
 
 -- ---- what is seen
 -- under three bytes no frame is whole
 pub look-short : (input : List ℕ) → length input < 3 → look input ≡ cut
-unfolding look lookBehind
+unfolding look lookParsed
 look-short input h = rw (parse-short input h)
 
 -- a frame begins with its header
@@ -39,13 +40,13 @@ header-pack p f = take-at (header p) _ 3 (length-header p)
 module _ (p : SbcParameters) (a : accepted p ≡ true) (input : List ℕ) where
   -- a header, and not all of its frame
   pub look-cut : take 3 input ≡ header p → length input < frameLength p → look input ≡ cut
-  unfolding look lookBehind
+  unfolding look lookParsed
   look-cut e h = rw (parse-header p a input e, lt-ltb (length input) (frameLength p) h)
 
   module _ (f : Fields) (e : take (frameLength p) input ≡ pack p f) where
     -- a whole frame, and its checksum is right
     pub look-whole : frameLength p ≤ length input → look input ≡ whole p true
-    unfolding look lookBehind
+    unfolding look lookParsed
     look-whole h =
         let split : pack p f ++ drop (frameLength p) input ≡ input =
         ap (λ l. l ++ drop (frameLength p) input) (sym e) ∙ take-append-drop (frameLength p) input in
@@ -63,18 +64,18 @@ module _ (p : SbcParameters) (a : accepted p ≡ true) (input : List ℕ) where
 -- ---- what the turn does
 module _ (d : SbcDecoder) (input : List ℕ) (output : List ℤ) where
   -- input that ends before its frame
-  pub turn-cut : look input ≡ cut → decodeNext d input output ≡ unchanged (shortStep d input) d output
-  unfolding decodeNext turnAt
+  pub turn-cut : look input ≡ cut → decodeNext d input output ≡ turnBy (nextShort (d .finishing) (length input)) d input output
+  unfolding decodeNext next nextAt
   turn-cut e = rw e
 
   -- no room for the frame's samples
   pub turn-full : (p : SbcParameters) → look input ≡ whole p true → length output < frameSamples p
       → decodeNext d input output ≡ unchanged (refused 5) d output
-  unfolding decodeNext turnAt
+  unfolding decodeNext next nextAt nextWhole turnBy
   turn-full p e h = rw (e, lt-ltb (length output) (frameSamples p) h)
 
   -- a frame is taken
   pub turn-whole : (p : SbcParameters) (f : Fields) → look input ≡ whole p true → unpack p (take (frameLength p) input) ≡ f
       → frameSamples p ≤ length output → decodeNext d input output ≡ play p d f output
-  unfolding decodeNext turnAt
+  unfolding decodeNext next nextAt nextWhole turnBy
   turn-whole p f e u h = rw (e, le-ltb (length output) (frameSamples p) h, u)

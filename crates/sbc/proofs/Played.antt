@@ -24,8 +24,9 @@ use Rattle.sbc_frame.proofs.Coding.{length-decoded}
 use Rattle.codec.specs.Answers.{progressOf, addProgress, wholeFrames}
 use Rattle.sbc_encoder.specs.Encode.{packAll}
 use Rattle.sbc_look.specs.Look.{cut, look}
+use Rattle.sbc_look.specs.Next.{no-frame, refusal, nextShort}
 use Rattle.sbc_decoder.specs.Decode.{startHistories, dropped, nextDecoder, nextOutput, Step, none-whole, refused, taken, play, unchanged}
-use Rattle.sbc_decoder.specs.Decode.{withParameters, withSynthesis, withSkip, shortStep, decodeNext, Turns, afterStep, decodeTurns, decodeAll}
+use Rattle.sbc_decoder.specs.Decode.{withParameters, withSynthesis, withSkip, turnBy, decodeNext, Turns, afterStep, decodeTurns, decodeAll}
 use Rattle.sbc_decoder.specs.declared.SbcDecoder.{SbcDecoder}
 use Rattle.codec.proofs.Fitting.{none-in, none-out, one-in, fits-in}
 use Rattle.sbc_encoder.proofs.Writing.{length-packAll}
@@ -170,10 +171,15 @@ module _ (p : SbcParameters) (d : SbcDecoder) (output : List ℤ) where
   -- input that ends before its frame
   halt-cut : (k n : ℕ) (fs : List Fields) (input : List ℕ) → n ≡ 0 → length input < frameLength p → look input ≡ cut
       → decodeTurns (suc k) d input output ≡ played p n fs d (length input) output
-  unfolding endingFor shortStep
+  unfolding endingFor nextShort turnBy
   halt-cut k n fs input e h c =
-      let s : shortStep d input ≡ endingFor p (d .finishing) (length input) = rw (lt-ltb (length input) (frameLength p) h) in
-      halt k n fs input e (turn-cut d input output c ∙ ap (λ x. unchanged x d output) s)
+      halt k n fs input e
+      (turn-cut d input output c ∙ rw (lt-ltb (length input) (frameLength p) h) (short (d .finishing && not (eqb (length input) 0))))
+    where
+      short : (t : Bool)
+          → turnBy (if t then refusal 1 else no-frame) d input output ≡ unchanged (if t then refused 1 else none-whole) d output
+      short true = refl
+      short false = refl
 
 -- ---- frames until none is whole
 module _ (p : SbcParameters) (a : accepted p ≡ true) where

@@ -1,5 +1,5 @@
 // The codec for C and Rust, as a static library (`rt staticlib sbc_abi`): the calls of the decoder, of the encoder and on parameters, on numbers,
-// slices and structs of numbers. include/sbc.h declares them for C.
+// slices and structs of numbers. include/sbc.h declares them for C, and include/sbc.rs has safe calls over them for Rust.
 //
 // No enum may cross to C, so a state is a struct of the numbers that stand for it (specs/Decoder, specs/Encoder). The caller owns it and lends it by
 // pointer. Each contract is one equation, with the definitions of the calls by value, and none has a `requires`: numbers that stand for nothing

@@ -1,50 +1,33 @@
--- Frames taken one after the other: the cases of a look and of a turn, what a played frame leaves, and the decode loop's own equation.
+-- Frames taken one after the other: the cases of a turn, what a played frame leaves, and the decode loop's own equation.
 -- Assumes nothing.
 use Prim.Native.Nat.{ℕ, zero, suc, _+_, _-_, _*_, _≤_, _<_}
 use mathlib.Core.Path.{_≡_, refl, sym, ap, _∙_}
-use mathlib.Core.Bool.{Bool, true, false, _&&_, not}
+use mathlib.Core.Bool.{Bool, true, false, _&&_}
 use mathlib.Core.List.{List, [], _++_}
 use native.Mathlib.Nat.{add-zero, add-suc, mul-le-mul-right}
 use native.Mathlib.Omega.{arith}
-use lib.Dec.{eqb, ltb}
 use lib.IntN.{ℤ}
-use lib.ListN.{length, getD, take, drop, length-append, length-take, length-drop}
+use lib.ListN.{length, take, drop, length-append, length-take, length-drop}
 use lib.Seq.{take-at, drop-at, drop-drop, drop-append-add}
-use borrow.Author.Tests.{ltb-false}
 use Rattle.laws.specs.Choice.{if_then_else_}
-use Rattle.laws.specs.Answers.{Told, gives, refuses}
-use Rattle.laws.proofs.Cases.{by-test}
-use Rattle.crc8.specs.Checksum.{checksum}
 use Rattle.sbc_parameters.specs.Parameters.{channels, accepted}
-use Rattle.sbc_parameters.specs.Sizes.{sideBits, frameLength, frameSamples}
+use Rattle.sbc_parameters.specs.Sizes.{frameLength, frameSamples}
 use Rattle.sbc_parameters.specs.Header.{parse}
 use Rattle.sbc_parameters.specs.declared.SbcParameters.{SbcParameters}
-use Rattle.sbc_parameters.proofs.Parsing.{parsed-accepted}
 use Rattle.sbc_frame.specs.Fields.{Fields}
 use Rattle.sbc_frame.specs.Layout.{unpack}
 use Rattle.sbc_frame.specs.Decoding.{decodeFields}
 use Rattle.sbc_frame.proofs.Coding.{length-decoded}
 use Rattle.codec.specs.Answers.{progressOf, addProgress}
-use Rattle.sbc_look.specs.Look.{Look, cut, bad, whole, lookBehind, look}
-use Rattle.sbc_decoder.specs.Decode.{startHistories, dropped, nextOutput, Step, none-whole, refused, Turn, play, unchanged, shortStep, turnAt, decodeNext, Turns, afterStep, decodeTurns, decodeAll, decode}
+use Rattle.sbc_look.specs.Look.{whole, lookParsed, look}
+use Rattle.sbc_look.specs.Next.{Decision, no-frame, refusal, nextShort, nextAt, next}
+use Rattle.sbc_look.proofs.Deciding.{next-cases}
+use Rattle.sbc_decoder.specs.Decode.{startHistories, dropped, nextOutput, Step, none-whole, refused, Turn, play, unchanged, turnBy, decodeNext, Turns, afterStep, decodeTurns, decodeAll, decode}
 use Rattle.codec.specs.declared.Progress.{Progress}
 use Rattle.sbc_decoder.specs.declared.SbcDecoder.{SbcDecoder}
 use Rattle.laws.proofs.Lists.{nil-of-length}
 
--- ---- the cases of a look, and of a turn
-
--- a whole frame has accepted parameters and all its bytes
-pub look-cases : (P : Look → Type 0) (input : List ℕ) → P cut → ((n : ℕ) → P (bad n))
-    → ((p : SbcParameters) (good : Bool) → accepted p ≡ true → frameLength p ≤ length input → P (whole p good)) → P (look input)
-unfolding look lookBehind
-look-cases P input none b w = go (parse input) refl
-  where
-    go : (t : Told SbcParameters) → parse input ≡ t → P (lookBehind input t)
-    go (refuses n) e = by-test P (eqb n 1) cut (bad n) (λ _. none) (λ _. b n)
-    go (gives p) e =
-        let good : Bool = eqb (checksum (take (frameLength p) input) (sideBits p)) (getD input 3 0) in
-        by-test P (ltb (length input) (frameLength p)) cut (whole p good) (λ _. none)
-        (λ l. w p good (parsed-accepted input p e) (ltb-false (length input) (frameLength p) l))
+-- ---- the cases of a turn
 
 -- two turns that differ in their output's contents only go alike
 pub turn-pairs : (P : Turn → Turn → Type 0) (d : SbcDecoder) (input : List ℕ) (o₁ o₂ : List ℤ) → length o₁ ≡ length o₂
@@ -53,23 +36,9 @@ pub turn-pairs : (P : Turn → Turn → Type 0) (d : SbcDecoder) (input : List �
     → ((p : SbcParameters) → accepted p ≡ true → look input ≡ whole p true → frameLength p ≤ length input → frameSamples p ≤ length o₁
     → let f = unpack p (take (frameLength p) input) in P (play p d f o₁) (play p d f o₂))
     → P (decodeNext d input o₁) (decodeNext d input o₂)
-unfolding decodeNext turnAt shortStep
-turn-pairs P d input o₁ o₂ same none refuse plays =
-    look-cases (λ x. look input ≡ x → P (turnAt x d input o₁) (turnAt x d input o₂)) input
-    (λ _. by-test (λ s. P (unchanged s d o₁) (unchanged s d o₂)) (d .finishing && not (eqb (length input) 0)) (refused 1) none-whole
-    (λ _. refuse 1) (λ _. none))
-    (λ n _. refuse n)
-    (λ p good a l e. rw (← same) (room p good a l e (ltb (length o₁) (frameSamples p)) refl))
-    refl
-  where
-    room : (p : SbcParameters) (good : Bool) → accepted p ≡ true → frameLength p ≤ length input → look input ≡ whole p good → (t : Bool)
-        → ltb (length o₁) (frameSamples p) ≡ t
-        → let f = unpack p (take (frameLength p) input) in
-        P (if t then unchanged (refused 5) d o₁ else if good then play p d f o₁ else unchanged (refused 4) d o₁)
-        (if t then unchanged (refused 5) d o₂ else if good then play p d f o₂ else unchanged (refused 4) d o₂)
-    room p good a l e true t = refuse 5
-    room p true a l e false t = plays p a e l (ltb-false (length o₁) (frameSamples p) t)
-    room p false a l e false t = refuse 4
+unfolding decodeNext turnBy
+turn-pairs P d input o₁ o₂ same none refuse play₂ =
+    rw (← same) (next-cases (λ x. P (turnBy x d input o₁) (turnBy x d input o₂)) (d .finishing) input (length o₁) none refuse play₂)
 
 -- a turn finds no whole frame or refuses, and changes nothing; or it plays a frame
 pub turn-cases : (P : Turn → Type 0) (d : SbcDecoder) (input : List ℕ) (output : List ℤ) → P (unchanged none-whole d output)
@@ -78,6 +47,12 @@ pub turn-cases : (P : Turn → Type 0) (d : SbcDecoder) (input : List ℕ) (outp
     → P (play p d (unpack p (take (frameLength p) input)) output))
     → P (decodeNext d input output)
 turn-cases P d input output none refuse plays = turn-pairs (λ t _. P t) d input output output refl none refuse plays
+
+-- a turn does what is to be done
+pub turn-does : (d : SbcDecoder) (input : List ℕ) (output : List ℤ) (x : Decision) → next (d .finishing) input (length output) ≡ x
+    → decodeNext d input output ≡ turnBy x d input output
+unfolding decodeNext
+turn-does d input output x e = ap (λ y. turnBy y d input output) e
 
 -- ---- what a played frame leaves
 
@@ -155,10 +130,10 @@ drop-both m k xs ys e = ap (λ n. drop (n + k) (xs ++ ys)) (sym e) ∙ drop-appe
 
 -- no bytes, no frame
 pub turn-empty : (d : SbcDecoder) (output : List ℤ) → decodeNext d [] output ≡ unchanged none-whole d output
-unfolding decodeNext look lookBehind parse turnAt shortStep
+unfolding decodeNext look lookParsed parse next nextAt nextShort turnBy
 turn-empty d output = go (d .finishing)
   where
-    go : (t : Bool) → unchanged (if t && false then refused 1 else none-whole) d output ≡ unchanged none-whole d output
+    go : (t : Bool) → turnBy (if t && false then refusal 1 else no-frame) d [] output ≡ unchanged none-whole d output
     go true = refl
     go false = refl
 

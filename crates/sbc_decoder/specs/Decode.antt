@@ -1,7 +1,7 @@
 -- The decoder and its call: from the decoder, the bytes and the output at entry to the answer, the next decoder and the output at exit.
 -- From document 01, "Calls" and "Given back".
 use Prim.Native.Nat.{ℕ, zero, suc, _+_, _-_, _*_, min, max}
-use mathlib.Core.Bool.{Bool, true, false, _&&_, not}
+use mathlib.Core.Bool.{Bool, true, false}
 use mathlib.Core.List.{List, _++_}
 use lib.Dec.{eqb, ltb}
 use lib.IntN.{ℤ}
@@ -19,6 +19,7 @@ use Rattle.sbc_frame.specs.Decoding.{decodeFields, synthesisHistories}
 use Rattle.codec.specs.Answers.{progressOf, addProgress, refusedAfter}
 use Rattle.codec.specs.declared.Progress.{Progress}
 use Rattle.sbc_look.specs.Look.{Look, cut, bad, whole, look}
+use Rattle.sbc_look.specs.Next.{Decision, no-frame, refusal, plays, next}
 use Rattle.sbc_seek.specs.declared.LastParameters.{LastParameters}
 use Rattle.sbc_seek.specs.declared.LastParameters.the-variants.{None, Some}
 use Rattle.sbc_decoder.specs.declared.SbcDecoder.{SbcDecoder}
@@ -98,28 +99,21 @@ play p d f output =
       output = nextOutput p d f output;
     }
 
--- ---- a turn of decode: 3 bytes, header, length, output, checksum, in this order; a refusal leaves all unchanged
+-- ---- a turn of decode: the tests say what is to be done (`next`); a refusal leaves all unchanged
 
 -- a turn that takes no frame
 unfoldable pub unchanged : Step → SbcDecoder → List ℤ → Turn
 unchanged step d output = record { step = step; decoder = d; output = output }
 
--- input that ends before its frame: Incomplete with finishing on and some input, else no frame
-unfoldable pub shortStep : SbcDecoder → List ℕ → Step
-shortStep d input = if d .finishing && not (eqb (length input) 0) then refused 1 else none-whole
-
--- a turn, by what stands in front
-unfoldable pub turnAt : Look → SbcDecoder → List ℕ → List ℤ → Turn
-turnAt cut d input output = unchanged (shortStep d input) d output
-turnAt (bad n) d input output = unchanged (refused n) d output
-turnAt (whole p good) d input output =
-    if ltb (length output) (frameSamples p) then unchanged (refused 5) d output else
-    if good then play p d (unpack p (take (frameLength p) input)) output else
-    unchanged (refused 4) d output
+-- a turn, by what is to be done
+unfoldable pub turnBy : Decision → SbcDecoder → List ℕ → List ℤ → Turn
+turnBy no-frame d input output = unchanged none-whole d output
+turnBy (refusal n) d input output = unchanged (refused n) d output
+turnBy (plays p) d input output = play p d (unpack p (take (frameLength p) input)) output
 
 -- a turn at the front of the input
 unfoldable pub decodeNext : SbcDecoder → List ℕ → List ℤ → Turn
-decodeNext d input output = turnAt (look input) d input output
+decodeNext d input output = turnBy (next (d .finishing) input (length output)) d input output
 
 -- ---- frames until none is whole
 

@@ -9,9 +9,8 @@ use laws::least;
 use sbc_decode_frame::decode_frame;
 use sbc_decode_frame::leave_out;
 use sbc_filterbank::Synthesis;
-use sbc_look::Front;
-use sbc_look::WholeFrame;
-use sbc_look::look;
+use sbc_look::Next;
+use sbc_look::decide;
 use sbc_parameters::Error;
 use sbc_parameters::SbcParameters;
 use sbc_seek::LastParameters;
@@ -28,8 +27,7 @@ ghost use Rattle.sbc_parameters.specs.Errors.{errorNumber};
 ghost use Rattle.sbc_parameters.specs.Parameters.{accepted};
 ghost use Rattle.sbc_parameters.specs.Sizes.{frameLength, frameSamples};
 ghost use Rattle.sbc_frame.specs.Layout.{unpack};
-ghost use Rattle.sbc_look.specs.Look.{whole, look};
-ghost use Rattle.sbc_decoder.specs.Decode.{cleared, play, newDecoder, finish, startHistories, refused, unchanged, shortStep, turnAt, decodeNext, decode};
+ghost use Rattle.sbc_decoder.specs.Decode.{cleared, play, newDecoder, finish, startHistories, refused, unchanged, decodeNext, decode};
 ghost use Rattle.sbc_decoder.specs.Told.{toldOutcome, toldTurn, toldDecoded};
 ghost use Rattle.sbc_decoder.specs.Seek.{toldSought, reset, resumed, seek};
 
@@ -150,47 +148,21 @@ impl SbcDecoder {
         }
     }
 
-    // One turn: 3 bytes, header, length, output, checksum, in this order; a refusal leaves all unchanged.
+    // One turn: what is to be done with the front of the input, done. A refusal leaves all unchanged.
     fn decode_next(self, input: &[u8], output: &mut [i16]) -> TurnResult
         ensures { λ r. ⌜ toldTurn r (now (output .exit)) ≡ decodeNext self (now (input .entry)) (now (output .entry)) ⌝ }
     {
-        let front = look(input);
-        match front {
-            Front::Cut => TurnResult {
-                outcome: self.short_outcome(input),
+        let next = decide(input, output.len(), self.finishing);
+        match next {
+            Next::Plays(parameters) => {
+                self.play(parameters, &input[..parameters.frame_length()], output)
+            }
+            Next::NoFrame => TurnResult {
+                outcome: Outcome::NoneWhole,
                 decoder: self,
             },
-            Front::Bad(error) => turned_away(self, error),
-            Front::Whole(frame) => self.decode_whole(frame, input, output),
+            Next::Refusal(error) => turned_away(self, error),
         }
-    }
-
-    // Of input that ends before its frame: Incomplete with finishing on and some input, else no frame.
-    fn short_outcome(self, input: &[u8]) -> Outcome
-        ensures { λ r. ⌜ toldOutcome r ≡ shortStep self (now (input .entry)) ⌝ }
-    {
-        if input.len() == 0 {
-            return Outcome::NoneWhole;
-        }
-        if self.finishing {
-            return Outcome::Refused(Error::Incomplete);
-        }
-        Outcome::NoneWhole
-    }
-
-    // A turn on a whole frame.
-    fn decode_whole(self, frame: WholeFrame, input: &[u8], output: &mut [i16]) -> TurnResult
-        requires { ⌜ (accepted (frame .parameters) ≡ true) × (frameLength (frame .parameters) ≤ length (now input)) ⌝ }
-        ensures { λ r. ⌜ toldTurn r (now (output .exit)) ≡ turnAt (whole (frame .parameters) (frame .good)) self (now (input .entry)) (now (output .entry)) ⌝ }
-    {
-        let parameters = frame.parameters;
-        if output.len() < parameters.frame_samples() {
-            return turned_away(self, Error::BufferTooSmall);
-        }
-        if frame.good {
-            return self.play(parameters, &input[..parameters.frame_length()], output);
-        }
-        turned_away(self, Error::InvalidData)
     }
 
     // Plays a frame. Samples that are still to be dropped are decoded, since later ones depend on them, and then left out.

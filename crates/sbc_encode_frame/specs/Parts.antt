@@ -9,13 +9,11 @@ use mathlib.Core.List.{List, [], _∷_, _++_}
 use lib.ListN.{length, getD}
 use lib.IntN.{ℤ}
 use Rattle.laws.specs.Bits.{digit}
-use Rattle.crc8.specs.Checksum.{checksum}
 use Rattle.sbc_parameters.specs.Parameters.{channels}
-use Rattle.sbc_parameters.specs.Sizes.{joinCount, sideBits, frameLength}
-use Rattle.sbc_parameters.specs.Header.{header}
+use Rattle.sbc_parameters.specs.Sizes.{joinCount, frameLength}
 use Rattle.sbc_parameters.specs.declared.SbcParameters.{SbcParameters}
 use Rattle.sbc_allocation.specs.Allocate.{allocationTable}
-use Rattle.sbc_frame.specs.Layout.{filled}
+use Rattle.sbc_frame.specs.Layout.{filled, framed}
 use Rattle.sbc_frame.specs.Encoding.{sampleAt, factorOf, isJoined, codedAt}
 use Rattle.sbc_frame.specs.Arrays.{sampleIn, entry}
 use Rattle.sbc_write.specs.Writing.{rowBits, valueBitsOf}
@@ -54,8 +52,7 @@ codingBits p flags left-factors right-factors left right =
     ++ (rowBits right-factors 4 (p .subbands * (channels p - 1))
     ++ valueBitsOf left right (getD widths 0 []) (getD widths 1 []) left-factors right-factors (p .blocks)))
 
--- and its bytes: header, checksum, body
+-- and its bytes
 unfoldable pub codingBytes : SbcParameters → List ℕ → List ℕ → List ℕ → List ℤ → List ℤ → List ℕ
 codingBytes p flags left-factors right-factors left right =
-    let rest = filled (frameLength p - 4) (codingBits p flags left-factors right-factors left right) in
-    header p ++ (checksum (header p ++ (0 ∷ rest)) (sideBits p) ∷ rest)
+    framed p (filled (frameLength p - 4) (codingBits p flags left-factors right-factors left right))

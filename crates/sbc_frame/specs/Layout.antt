@@ -51,9 +51,13 @@ filled size bits = bytesOf size (bits ++ replicate (8 * size - length bits) fals
 unfoldable pub body : SbcParameters → Fields → List ℕ
 body p f = filled (frameLength p - 4) (bodyBits p f)
 
--- header, checksum, body; the checksum does not look at byte 3
+-- a frame with these bytes behind byte 3: header, checksum, body; the checksum does not look at byte 3
+abbrev pub framed : SbcParameters → List ℕ → List ℕ
+framed p bytes = header p ++ (checksum (header p ++ (0 ∷ bytes)) (sideBits p) ∷ bytes)
+
+-- the frame of these fields
 unfoldable pub pack : SbcParameters → Fields → List ℕ
-pack p f = header p ++ (checksum (header p ++ (0 ∷ body p f)) (sideBits p) ∷ body p f)
+pack p f = framed p (body p f)
 
 -- ---- reading: the positions count bits from the frame's first, and byte 4 begins at bit 32
 

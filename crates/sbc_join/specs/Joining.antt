@@ -14,13 +14,17 @@ use Rattle.laws.specs.Integers.{floorDiv}
 use Rattle.sbc_quantizer.specs.Quantizing.{scaleFactor}
 use Rattle.sbc_frame.specs.Arrays.{sampleIn, entry}
 
--- the greatest absolute value of each subband in n blocks
+-- the greatest absolute value of a subband in n blocks
+abbrev pub maximumIn : ℕ → List ℤ → ℕ → ℕ
+maximumIn n xs s = greatest n (λ b. natAbs (sampleIn xs b s))
+
+-- those of all subbands
 unfoldable pub maximaIn : ℕ → List ℤ → List ℕ
-maximaIn n xs = build 8 (λ s. greatest n (λ b. natAbs (sampleIn xs b s)))
+maximaIn n xs = build 8 (maximumIn n xs)
 
 -- the scale factor of each subband in n blocks
 unfoldable pub factorsIn : ℕ → List ℤ → List ℕ
-factorsIn n xs = build 8 (λ s. scaleFactor (greatest n (λ b. natAbs (sampleIn xs b s))))
+factorsIn n xs = build 8 (λ s. scaleFactor (maximumIn n xs s))
 
 -- both halved, then added or subtracted
 unfoldable pub halfSums : List ℤ → List ℤ → List ℤ

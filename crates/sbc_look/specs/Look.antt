@@ -24,16 +24,16 @@ pub data Look : Type 0 where
   -- a whole frame, and whether byte 3 holds its checksum
   whole : SbcParameters → Bool → Look
 
--- the tests behind parse: length and checksum
-unfoldable pub lookBehind : List ℕ → Told SbcParameters → Look
-lookBehind input (refuses n) = if eqb n 1 then cut else bad n
-lookBehind input (gives p) =
+-- what parse says, and for a header that it accepts the tests of length and checksum
+unfoldable pub lookParsed : List ℕ → Told SbcParameters → Look
+lookParsed input (refuses n) = if eqb n 1 then cut else bad n
+lookParsed input (gives p) =
     if ltb (length input) (frameLength p) then cut else
     whole p (eqb (checksum (take (frameLength p) input) (sideBits p)) (getD input 3 0))
 
--- parse, then these
+-- parse, then these tests
 unfoldable pub look : List ℕ → Look
-look input = lookBehind input (parse input)
+look input = lookParsed input (parse input)
 
 -- what the code finds, in these terms
 unfoldable pub toldFront : Front → Look

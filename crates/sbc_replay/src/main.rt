@@ -31,7 +31,8 @@ use sbc_parameters::Validated;
 use sbc_seek::LastParameters;
 use sbc_seek::SeekOutcome;
 ghost use mathlib.Core.Path.{_≡_};
-ghost use Prim.Native.Nat.{_*_};
+ghost use mathlib.Core.Bool.{true};
+ghost use Prim.Native.Nat.{_*_, _≤_};
 ghost use lib.ListN.{length};
 
 const NO_SET: [u8; 9] = [0; 9];
@@ -41,6 +42,13 @@ struct Replay {
     decoder: SbcDecoder,
     encoder: SbcEncoder,
     going: bool,
+}
+
+// The lengths of an encode or a decode request, and whether both came.
+struct Sizes {
+    input: usize,
+    output: usize,
+    came: bool,
 }
 
 // Fills the buffer from standard input, and answers whether there was enough.
@@ -213,6 +221,41 @@ fn run_decoder(decoder: SbcDecoder, raw: &mut [u8], bytes: &[u8], samples: &mut 
     result.decoder
 }
 
+impl Sizes {
+    fn read() -> Sizes {
+        let mut l = [0u8; 8];
+        let came = fill(&mut l);
+        Sizes {
+            input: number(l[0], l[1], l[2], l[3]) as usize,
+            output: number(l[4], l[5], l[6], l[7]) as usize,
+            came,
+        }
+    }
+
+    // Whether they came, and the buffers hold so many samples, at two raw bytes each, and so many bytes.
+    fn fit(
+        self,
+        samples: usize,
+        bytes: usize,
+        raw_room: usize,
+        samples_room: usize,
+        bytes_room: usize,
+    ) -> bool
+        ensures { λ r. ⌜ (r ≡ true → (2 * samples ≤ «raw_room») × (samples ≤ «samples_room») × (bytes ≤ «bytes_room»)) ⌝ }
+    {
+        if !self.came {
+            return false;
+        }
+        if samples > raw_room / 2 {
+            return false;
+        }
+        if samples > samples_room {
+            return false;
+        }
+        bytes <= bytes_room
+    }
+}
+
 impl Replay {
     fn new() -> Replay {
         let created = SbcEncoder::new(SbcParameters::HIGH_QUALITY);
@@ -289,19 +332,10 @@ impl Replay {
     }
 
     fn encode(self, raw: &mut [u8], bytes: &mut [u8], samples: &mut [i16]) -> Replay {
-        let mut l = [0u8; 8];
-        if !fill(&mut l) {
-            return self.stopped();
-        }
-        let count = number(l[0], l[1], l[2], l[3]) as usize;
-        let room = number(l[4], l[5], l[6], l[7]) as usize;
-        if count > samples.len() {
-            return self.stopped();
-        }
-        if room > bytes.len() {
-            return self.stopped();
-        }
-        if 2 * count > raw.len() {
+        let sizes = Sizes::read();
+        let count = sizes.input;
+        let room = sizes.output;
+        if !sizes.fit(count, room, raw.len(), samples.len(), bytes.len()) {
             return self.stopped();
         }
         self.encode_lent(
@@ -322,19 +356,10 @@ impl Replay {
     }
 
     fn decode(self, raw: &mut [u8], bytes: &mut [u8], samples: &mut [i16]) -> Replay {
-        let mut l = [0u8; 8];
-        if !fill(&mut l) {
-            return self.stopped();
-        }
-        let count = number(l[0], l[1], l[2], l[3]) as usize;
-        let room = number(l[4], l[5], l[6], l[7]) as usize;
-        if count > bytes.len() {
-            return self.stopped();
-        }
-        if room > samples.len() {
-            return self.stopped();
-        }
-        if 2 * room > raw.len() {
+        let sizes = Sizes::read();
+        let count = sizes.input;
+        let room = sizes.output;
+        if !sizes.fit(room, count, raw.len(), samples.len(), bytes.len()) {
             return self.stopped();
         }
         self.decode_lent(

@@ -1,4 +1,4 @@
--- `joining::factors_of` meets its contract. The loop's invariant: the scale factors of the subbands passed, and zeros behind them.
+-- `factors_of` meets its contract. The loop's invariant: the scale factors of the subbands passed, and zeros behind them.
 -- Assumes nothing.
 use Prim.Native.Nat.{_-_, _≤_}
 use mathlib.Core.Path.{_≡_, _∙_}

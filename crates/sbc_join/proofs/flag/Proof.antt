@@ -1,4 +1,4 @@
--- `joining::flag` meets its contract.
+-- `flag` meets its contract.
 -- Assumes nothing.
 use Rattle.laws.specs.Bits.{digit}
 use Rattle.sbc_join.proofs.flag.Statement.{statement}

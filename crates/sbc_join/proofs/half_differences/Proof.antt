@@ -1,4 +1,4 @@
--- `joining::half_differences` meets its contract. The loop's invariant: the differences passed, and zeros behind them.
+-- `half_differences` meets its contract. The loop's invariant: the differences passed, and zeros behind them.
 -- Assumes nothing.
 use Prim.Native.Nat.{ℕ, _-_, _≤_}
 use mathlib.Core.Path.{_≡_}

@@ -1,4 +1,4 @@
--- `joining::half_sums` meets its contract. The loop's invariant: the sums passed, and zeros behind them.
+-- `half_sums` meets its contract. The loop's invariant: the sums passed, and zeros behind them.
 -- Assumes nothing.
 use Prim.Native.Nat.{ℕ, _-_, _≤_}
 use mathlib.Core.Path.{_≡_}

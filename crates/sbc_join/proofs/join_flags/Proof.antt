@@ -1,4 +1,4 @@
--- `joining::join_flags` meets its contract. The loop's invariant: the flags of the subbands passed, and zeros behind them.
+-- `join_flags` meets its contract. The loop's invariant: the flags of the subbands passed, and zeros behind them.
 -- Assumes nothing.
 use Prim.Native.Nat.{ℕ, _-_, _≤_}
 use mathlib.Core.Path.{_≡_, ap, _∙_}

@@ -1,4 +1,4 @@
--- `joining::magnitude` meets its contract: the absolute value of an i32 fits a u32.
+-- `magnitude` meets its contract: the absolute value of an i32 fits a u32.
 -- Assumes nothing.
 use Prim.Native.Nat.{suc, _+_}
 use mathlib.Core.Path.{_≡_, ap, _∙_}

@@ -1,4 +1,4 @@
--- `joining::maxima` meets its contract. The loop's invariant: the greatest absolute values of the blocks passed.
+-- `maxima` meets its contract. The loop's invariant: the greatest absolute values of the blocks passed.
 -- Assumes nothing.
 use Prim.Native.Nat.{ℕ, _-_, _≤_}
 use mathlib.Core.Path.{_≡_, ap, _∙_}

@@ -1,4 +1,4 @@
--- `joining::pick_row` meets its contract. The loop's invariant: the entries passed are picked, and zeros stand behind them.
+-- `pick_row` meets its contract. The loop's invariant: the entries passed are picked, and zeros stand behind them.
 -- Assumes nothing.
 use Prim.Native.Nat.{ℕ, _-_, _≤_}
 use mathlib.Core.Path.{_≡_, sym, _∙_}

@@ -1,4 +1,4 @@
--- `joining::pick_samples` meets its contract. The loop's invariant: the subbands passed are picked where their flag is set, and the others are
+-- `pick_samples` meets its contract. The loop's invariant: the subbands passed are picked where their flag is set, and the others are
 -- as they were at entry.
 -- Assumes nothing.
 use Prim.Native.Nat.{ℕ, _-_, _≤_}

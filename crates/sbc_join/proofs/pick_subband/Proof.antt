@@ -1,4 +1,4 @@
--- `joining::pick_subband` meets its contract. The loop's invariant: the subband's samples in the blocks passed are replaced.
+-- `pick_subband` meets its contract. The loop's invariant: the subband's samples in the blocks passed are replaced.
 -- Assumes nothing.
 use Prim.Native.Nat.{ℕ, _-_, _≤_}
 use mathlib.Core.Path.{_≡_, refl, ap, _∙_}

@@ -1,4 +1,4 @@
--- `joining::raise` meets its contract. The loop's invariant: the entries passed are raised, and zeros stand behind them.
+-- `raise` meets its contract. The loop's invariant: the entries passed are raised, and zeros stand behind them.
 -- Assumes nothing.
 use Prim.Native.Nat.{ℕ, _-_, _≤_, max}
 use mathlib.Core.Path.{_≡_, ap, _∙_}

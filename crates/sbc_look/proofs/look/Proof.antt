@@ -8,7 +8,7 @@ use Rattle.laws.specs.Answers.{gives}
 use Rattle.sbc_parameters.specs.Errors.{errorNumber}
 use Rattle.sbc_parameters.specs.Header.{toldParsed, parse}
 use Rattle.sbc_parameters.proofs.Parsing.{parsed-accepted}
-use Rattle.sbc_look.specs.Look.{cut, bad, lookBehind, look, toldFront}
+use Rattle.sbc_look.specs.Look.{cut, bad, lookParsed, look, toldFront}
 use borrow.Author.Needs.{needs}
 use Rattle.sbc_look.proofs.look.Statement.{statement}
 use Rattle.sbc_look.proofs.look.Tie as tie
@@ -24,8 +24,8 @@ parsed : (c : tie.After-known-told) → parse (c .before .before .before .before
 unfolding toldParsed
 parsed c = sym (c .before .before .before .parse .ensures) ∙ ap toldParsed (c .before .parsed .given .1)
 
-look-behind-requires : tie.Need-look-behind-requires
-look-behind-requires c κs = parsed-accepted (c .before .before .before .before .before .args .input .now) (c .before .parsed .given .0 .0) (parsed c)
+look-parsed-requires : tie.Need-look-parsed-requires
+look-parsed-requires c κs = parsed-accepted (c .before .before .before .before .before .args .input .now) (c .before .parsed .given .0 .0) (parsed c)
 
 enum-known-parsed-2 : tie.Need-enum-known-parsed-2
 enum-known-parsed-2 c = search needs
@@ -36,10 +36,10 @@ number-requires c κs = search needs
 -- the header is refused
 seen : (c : tie.After-number) → let n = errorNumber (c .before .before .parsed2 .given .0 .0) in
     look (c .before .before .before .before .before .before .args .input .now) ≡ (if eqb n 1 then cut else bad n)
-unfolding toldParsed look lookBehind
+unfolding toldParsed look lookParsed
 seen c =
     let input = c .before .before .before .before .before .before .args .input .now in
-    ap (lookBehind input) (sym (c .before .before .before .before .parse .ensures) ∙ ap toldParsed (c .before .before .parsed2 .given .1))
+    ap (lookParsed input) (sym (c .before .before .before .before .parse .ensures) ∙ ap toldParsed (c .before .before .parsed2 .given .1))
 
 returns : tie.Need-returns
 unfolding toldFront
@@ -49,7 +49,7 @@ returns c =
 
 returns-2 : tie.Need-returns-2
 unfolding look
-returns-2 c = c .look-behind .ensures ∙ sym (ap (lookBehind (c .before .before .before .before .before .before .args .input .now)) (parsed (c .before)))
+returns-2 c = c .look-parsed .ensures ∙ sym (ap (lookParsed (c .before .before .before .before .before .before .args .input .now)) (parsed (c .before)))
 
 returns-3 : tie.Need-returns-3
 unfolding toldFront
@@ -63,7 +63,7 @@ look-spec =
     (tie.spec
     parse-requires
     enum-known-parsed
-    look-behind-requires
+    look-parsed-requires
     enum-known-parsed-2
     number-requires
     returns

@@ -1,116 +1,116 @@
--- `SbcDecoder::decode_next` meets its contract: each return by what stands in front of the input.
+-- `SbcDecoder::decode_next` meets its contract: each return by what is to be done.
 -- Assumes nothing.
 use Prim.Native.Nat.{ℕ, _≤_}
-use mathlib.Core.Path.{_≡_, sym, ap, subst, _∙_}
-use mathlib.Core.Bool.{Bool, true}
+use mathlib.Core.Path.{_≡_, sym, ap, _∙_}
+use mathlib.Core.Bool.{true}
 use mathlib.Core.List.{List}
 use native.Mathlib.Omega.{arith}
-use lib.ListN.{length}
+use lib.ListN.{length, take}
+use lib.Seq.{length-take-le}
 use Rattle.sbc_parameters.specs.Errors.{errorNumber}
 use Rattle.sbc_parameters.specs.Parameters.{accepted}
-use Rattle.sbc_parameters.specs.Sizes.{frameLength}
+use Rattle.sbc_parameters.specs.Sizes.{frameLength, frameSamples}
 use Rattle.sbc_parameters.specs.declared.SbcParameters.{SbcParameters}
-use Rattle.sbc_look.specs.Look.{Look, cut, bad, whole, look, toldFront}
-use Rattle.sbc_decoder.specs.Decode.{unchanged, turnAt, decodeNext}
-use Rattle.sbc_decoder.specs.Told.{toldTurn}
-use Rattle.sbc_decoder.proofs.Taking.{look-cases}
+use Rattle.sbc_look.specs.Next.{Decision, no-frame, refusal, plays, next, toldNext}
+use Rattle.sbc_look.proofs.Deciding.{plays-fits}
+use Rattle.sbc_decoder.specs.Decode.{unchanged, turnBy, decodeNext}
+use Rattle.sbc_decoder.specs.Told.{toldOutcome, toldTurn}
+use Rattle.sbc_decoder.proofs.Taking.{turn-does}
 use borrow.Author.Needs.{needs}
 use Rattle.sbc_decoder.proofs.SbcDecoder.decode_next.Statement.{statement}
 use Rattle.sbc_decoder.proofs.SbcDecoder.decode_next.Tie as tie
 
--- what is seen whole has accepted parameters and all its bytes
-seen-whole : (input : List ℕ) (p : SbcParameters) (good : Bool) → look input ≡ whole p good
-    → (accepted p ≡ true) × (frameLength p ≤ length input)
-seen-whole input p good =
-    look-cases (λ x. x ≡ whole p good → (accepted p ≡ true) × (frameLength p ≤ length input)) input
-    (λ e. absurd (let z : _≡_ {A = ℕ} 0 1 = cc in omega arith))
-    (λ n e. absurd (let z : _≡_ {A = ℕ} 0 1 = cc in omega arith))
-    (λ q _ a l e.
-    let same : q ≡ p = cc in
-    subst (λ r. (accepted r ≡ true) × (frameLength r ≤ length input)) same (a, l))
+decide-requires : tie.Need-decide-requires
+decide-requires c κs = search needs
 
-look-requires : tie.Need-look-requires
-look-requires c κs = search needs
+-- what is to be done
+module _ (c : tie.After-decide) where
+  abbrev start : tie.Start
+  start = c .before .before
+
+  does : (x : Decision) → toldNext (c .decide .result) ≡ x
+      → let a = start .args in decodeNext (a .self) (a .input .now) (a .output .now) ≡ turnBy x (a .self) (a .input .now) (a .output .now)
+  does x e = turn-does (start .args .self) (start .args .input .now) (start .args .output .now) x (sym (c .decide .ensures) ∙ e)
+
+enum-known-next : tie.Need-enum-known-next
+enum-known-next c = search needs
+
+frame-length-requires : tie.Need-frame-length-requires
+frame-length-requires c κs = search needs
+
+-- a frame is to be played: its bytes are there, and the room for its samples
+module _ (c : tie.After-frame-length) where
+  abbrev decided : tie.After-decide
+  decided = c .before .before .before .before
+
+  abbrev p : SbcParameters
+  p = c .before .before .next .given .0 .0
+
+  abbrev input : List ℕ
+  input = start decided .args .input .now
+
+  to-play : toldNext (decided .decide .result) ≡ plays p
+  unfolding toldNext
+  to-play = ap toldNext (c .before .before .next .given .1)
+
+  fits : (accepted p ≡ true) × (frameLength p ≤ length input) × (frameSamples p ≤ length (start decided .args .output .now))
+  fits =
+      let a = start decided .args in
+      plays-fits (a .self .finishing) input (length (a .output .now)) p (sym (decided .decide .ensures) ∙ to-play)
+
+  length-frame : length (take (c .frame-length .result) input) ≡ c .frame-length .result
+  length-frame = length-take-le (c .frame-length .result) input (omega (arith, c .frame-length .ensures, fits .1))
+
+slice-aggregate-play : tie.Need-slice-aggregate-play
+slice-aggregate-play c = sym (length-frame (c .before))
+
+play-requires : tie.Need-play-requires
+play-requires c κs =
+    let l = c .before .before in
+    (fits l .0, length-frame l ∙ l .frame-length .ensures, fits l .2)
 
 enum-told : tie.Need-enum-told
 enum-told c = search needs
 
-short-outcome-requires : tie.Need-short-outcome-requires
-short-outcome-requires c κs = search needs
-
-enum-known-front : tie.Need-enum-known-front
-enum-known-front c = search needs
+enum-known-next-2 : tie.Need-enum-known-next-2
+enum-known-next-2 c = search needs
 
 turned-away-requires : tie.Need-turned-away-requires
 turned-away-requires c κs = search needs
 
-enum-known-front-2 : tie.Need-enum-known-front-2
-enum-known-front-2 c = search needs
-
--- what `look` answered
-module _ (c : tie.After-look) where
-  abbrev start : tie.Start
-  start = c .before .before
-
-  seen : (x : Look) → toldFront (c .look .result) ≡ x → look (start .args .input .now) ≡ x
-  seen x e = sym (c .look .ensures) ∙ e
-
--- a whole frame stands in front
-module _ (c : tie.After-front2) where
-  abbrev front : tie.After-look
-  front = c .before .before
-
-  abbrev p : SbcParameters
-  p = c .front2 .given .0 .0 .parameters
-
-  abbrev good : Bool
-  good = c .front2 .given .0 .0 .good
-
-  whole-front : toldFront (front .look .result) ≡ whole p good
-  unfolding toldFront
-  whole-front = ap toldFront (c .front2 .given .1)
-
-decode-whole-requires : tie.Need-decode-whole-requires
-decode-whole-requires c κs =
-    let w = c .before .before in
-    seen-whole (start (front w) .args .input .now) (p w) (good w) (seen (front w) (whole (p w) (good w)) (whole-front w))
-
-returns : tie.Need-returns
-unfolding toldFront toldTurn unchanged turnAt decodeNext
-returns c =
-    let l = c .before .before .before in
-    rw (seen l cut (ap toldFront (c .before .enum-told .given .1)))
-    (ap (λ s. unchanged s (start l .args .self) (start l .args .output .now)) (c .short-outcome .ensures))
-
-returns-2 : tie.Need-returns-2
-unfolding toldFront turnAt decodeNext
-returns-2 c =
-    let f = c .before .before in
-    let l = f .before .before in
-    rw (seen l (bad (errorNumber (f .front .given .0 .0))) (ap toldFront (f .front .given .1)))
-    (c .turned-away .ensures (start l .args .output .now))
-
 same-length : tie.Need-same-length
 same-length c = search needs
 
+returns : tie.Need-returns
+unfolding turnBy
+returns c =
+    let l = c .before .before .before .before in
+    rw (does (decided l) (plays (p l)) (to-play l), ← l .frame-length .ensures) (c .before .play .ensures)
+
+returns-2 : tie.Need-returns-2
+unfolding toldNext toldOutcome toldTurn unchanged turnBy
+returns-2 c = sym (does (c .before .before) no-frame (ap toldNext (c .enum-told .given .1)))
+
 returns-3 : tie.Need-returns-3
-unfolding decodeNext
+unfolding toldNext turnBy
 returns-3 c =
-    let w = c .before .before .before .before in
-    rw (seen (front w) (whole (p w) (good w)) (whole-front w)) (c .before .decode-whole .ensures)
+    let r = c .before .before in
+    let k = r .before .before in
+    c .turned-away .ensures (start k .args .output .now) ∙ sym (does k (refusal (errorNumber (r .next2 .given .0 .0))) (ap toldNext (r .next2 .given .1)))
 
 pub decode-next-spec : {M : Type 1} → statement M
 decode-next-spec =
     tie.close
     (tie.spec
-    look-requires
+    decide-requires
+    enum-known-next
+    frame-length-requires
+    slice-aggregate-play
+    play-requires
     enum-told
-    short-outcome-requires
-    enum-known-front
+    enum-known-next-2
     turned-away-requires
-    enum-known-front-2
-    decode-whole-requires
+    same-length
     returns
     returns-2
-    same-length
     returns-3)

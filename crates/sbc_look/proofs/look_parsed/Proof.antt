@@ -1,4 +1,4 @@
--- `look_behind` meets its contract: a whole frame has a byte 3, and its checksum is compared with it.
+-- `look_parsed` meets its contract: a whole frame has a byte 3, and its checksum is compared with it.
 -- Assumes nothing.
 use Prim.Native.Nat.{ℕ}
 use mathlib.Core.Path.{_≡_, sym, ap, ap₂, _∙_}
@@ -10,16 +10,16 @@ use borrow.Author.Tests.{lt-ltb, le-ltb}
 use Rattle.crc8.specs.Checksum.{checksum}
 use Rattle.sbc_parameters.specs.Sizes.{sideBits, frameLength}
 use Rattle.sbc_parameters.proofs.Accepted.{frame-length-range}
-use Rattle.sbc_look.specs.Look.{lookBehind, toldFront}
+use Rattle.sbc_look.specs.Look.{lookParsed, toldFront}
 use borrow.Author.Needs.{needs}
-use Rattle.sbc_look.proofs.look_behind.Statement.{statement}
-use Rattle.sbc_look.proofs.look_behind.Tie as tie
+use Rattle.sbc_look.proofs.look_parsed.Statement.{statement}
+use Rattle.sbc_look.proofs.look_parsed.Tie as tie
 
 frame-length-requires : tie.Need-frame-length-requires
 frame-length-requires c κs = search needs
 
 returns : tie.Need-returns
-unfolding toldFront lookBehind
+unfolding toldFront lookParsed
 returns c =
     let start = c .before .before .before in
     rw (lt-ltb (length (start .args .input .now)) (frameLength (start .args .parameters))
@@ -45,7 +45,7 @@ is-checksum-requires : tie.Need-is-checksum-requires
 is-checksum-requires c κs = search needs
 
 returns-2 : tie.Need-returns-2
-unfolding toldFront lookBehind
+unfolding toldFront lookParsed
 returns-2 c =
     let read = c .before in
     let start = read .before .before .before .before .before .before .before in
@@ -58,8 +58,8 @@ returns-2 c =
     c .is-checksum .ensures ∙ ap (λ (n : ℕ). eqb n (getD input 3 0)) sum in
     rw (le-ltb (length input) (frameLength p) (omega (arith, read .before .before .before .before .if1 .left, long)), good)
 
-pub look-behind-spec : {M : Type 1} → statement M
-look-behind-spec =
+pub look-parsed-spec : {M : Type 1} → statement M
+look-parsed-spec =
     tie.close
     (tie.spec
     frame-length-requires
