@@ -335,14 +335,14 @@ impl Replay {
         let sizes = Sizes::read();
         let count = sizes.input;
         let room = sizes.output;
-        if !sizes.fit(count, room, raw.len(), samples.len(), bytes.len()) {
-            return self.stopped();
+        if sizes.fit(count, room, raw.len(), samples.len(), bytes.len()) {
+            return self.encode_lent(
+                &mut raw[..2 * count],
+                &mut bytes[..room],
+                &mut samples[..count],
+            );
         }
-        self.encode_lent(
-            &mut raw[..2 * count],
-            &mut bytes[..room],
-            &mut samples[..count],
-        )
+        self.stopped()
     }
 
     fn encode_lent(self, raw: &mut [u8], bytes: &mut [u8], samples: &mut [i16]) -> Replay
@@ -359,14 +359,14 @@ impl Replay {
         let sizes = Sizes::read();
         let count = sizes.input;
         let room = sizes.output;
-        if !sizes.fit(room, count, raw.len(), samples.len(), bytes.len()) {
-            return self.stopped();
+        if sizes.fit(room, count, raw.len(), samples.len(), bytes.len()) {
+            return self.decode_lent(
+                &mut raw[..2 * room],
+                &mut bytes[..count],
+                &mut samples[..room],
+            );
         }
-        self.decode_lent(
-            &mut raw[..2 * room],
-            &mut bytes[..count],
-            &mut samples[..room],
-        )
+        self.stopped()
     }
 
     fn decode_lent(self, raw: &mut [u8], bytes: &mut [u8], samples: &mut [i16]) -> Replay
