@@ -1,7 +1,7 @@
 -- What a seek makes of the decoder, by its answer.
 -- Assumes nothing.
 use Prim.Native.Nat.{ℕ}
-use mathlib.Core.Path.{_≡_, refl, sym, ap}
+use mathlib.Core.Path.{_≡_, refl}
 use mathlib.Core.Bool.{false}
 use Rattle.laws.specs.Answers.{gives, refuses}
 use Rattle.sbc_seek.specs.Seek.{seekRequest}

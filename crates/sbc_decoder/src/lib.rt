@@ -18,17 +18,17 @@ use sbc_seek::SeekOutcome;
 use sbc_seek::seek_request;
 ghost use mathlib.Core.Path.{_≡_};
 ghost use mathlib.Core.Bool.{true};
-ghost use mathlib.Core.List.{List, _++_};
+ghost use mathlib.Core.List.{List};
 ghost use Prim.Native.Nat.{_-_, _*_, _≤_};
 ghost use lib.Dec.{eqb};
 ghost use lib.IntN.{ℤ};
-ghost use lib.ListN.{length, take, drop};
+ghost use lib.ListN.{length};
 ghost use Rattle.sbc_parameters.specs.Errors.{errorNumber};
 ghost use Rattle.sbc_parameters.specs.Parameters.{accepted};
 ghost use Rattle.sbc_parameters.specs.Sizes.{frameLength, frameSamples};
 ghost use Rattle.sbc_frame.specs.Layout.{unpack};
 ghost use Rattle.sbc_decoder.specs.Decode.{cleared, play, newDecoder, finish, startHistories, refused, unchanged, decodeNext, decode};
-ghost use Rattle.sbc_decoder.specs.Told.{toldOutcome, toldTurn, toldDecoded};
+ghost use Rattle.sbc_decoder.specs.Told.{toldTurn, toldDecoded};
 ghost use Rattle.sbc_decoder.specs.Seek.{toldSought, reset, resumed, seek};
 
 // An SBC and mSBC decoder.

@@ -1,11 +1,10 @@
 // The parameters of an SBC stream: which sets are accepted, the sizes of a frame, and its header.
 ghost use mathlib.Core.Path.{_≡_};
-ghost use mathlib.Core.Bool.{true};
 ghost use Prim.Native.Nat.{_+_, _*_, _<_, _≤_};
 ghost use lib.ListN.{getD};
 ghost use Rattle.laws.specs.Lists.{allOf, indexOf, listed};
 ghost use Rattle.sbc_parameters.specs.Errors.{errorNumber};
-ghost use Rattle.sbc_parameters.specs.Parameters.{highQuality, msbc, channelModes, allocations, modeNumber, allocationNumber, channelsOf, channels, maximumBitpool, isMsbc, msbcTests, fieldTests, accepted, toldValidated, validate};
+ghost use Rattle.sbc_parameters.specs.Parameters.{highQuality, channelModes, allocations, modeNumber, allocationNumber, channelsOf, channels, maximumBitpool, isMsbc, msbcTests, fieldTests, accepted, toldValidated, validate};
 ghost use Rattle.sbc_parameters.specs.Sizes.{joinCount, sideBits, blockBits, frameLength, samplesPerChannel, frameSamples};
 ghost use Rattle.sbc_parameters.specs.Header.{placeIn, frequencyIndex, settingsByte, header, fromSettings, toldParsed, parse};
 ghost use Rattle.sbc_parameters.specs.declared.SbcChannelMode.the-variants.{JointStereo};
