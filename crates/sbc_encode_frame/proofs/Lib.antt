@@ -1,5 +1,2 @@
 -- What the code analyzes, chooses and writes of a frame is what `encodeFields` and `pack` say.
-mod Analyzed
-mod Chosen
 mod Packed
-mod Headed

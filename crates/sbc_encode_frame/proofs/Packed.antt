@@ -28,9 +28,10 @@ use Rattle.sbc_frame.specs.Fields.{Fields, factorAt, valueAt, widthAt}
 use Rattle.sbc_frame.specs.Layout.{flagBits, channelFactorBits, factorBits, channelValueBits, blockValueBits, valueBits, bodyBits, filled, body, pack}
 use Rattle.sbc_frame.specs.Channels.{pcmIn, channelPcm, analyzeBlocks, analysisAfter}
 use Rattle.sbc_frame.specs.Encoding.{sampleAt, channelSamples, factorOf, isJoined, codedAt, codedFactors, codedValues, codedFields, analysisHistories}
-use Rattle.sbc_frame.specs.Arrays.{entry}
-use Rattle.sbc_encode_frame.specs.Parts.{SamplesIn, ChannelsIn, CodingIn, codingBits, codingBytes}
+use Rattle.sbc_frame.specs.Arrays.{entry, SamplesIn}
+use Rattle.sbc_code.specs.Coding.{ChannelsIn, CodingIn}
 use Rattle.sbc_write.specs.Writing.{rowBits, blockBitsOf, valueBitsOf}
+use Rattle.sbc_write_frame.specs.Framing.{codingBits, codingBytes}
 use Rattle.sbc_frame.proofs.Widths.{Enough, allocate-agree, table-width, width-none, width-absent}
 use Rattle.sbc_frame.proofs.Sizes.{row-sizes}
 

@@ -1,0 +1,2 @@
+-- A frame as the code writes it.
+mod Headed
