@@ -2,24 +2,24 @@
 -- Assumes nothing.
 use mathlib.Core.Path.{refl}
 use Rattle.lending.proofs.Types.{Struct, Value, Passed, Result, of-struct, of-u8}
-use Rattle.sbc_abi.specs.declared.decoder.DecodedState.{DecodedState}
-use Rattle.sbc_abi.specs.declared.decoder.SoughtState.{SoughtState}
-use Rattle.sbc_abi.specs.declared.encoder.CreatedState.{CreatedState}
-use Rattle.sbc_abi.specs.declared.encoder.EncodedState.{EncodedState}
-use Rattle.sbc_abi.proofs.DecoderState as d
-use Rattle.sbc_abi.proofs.DecoderState.Laws as d′
-use Rattle.sbc_abi.proofs.EncoderState as e
-use Rattle.sbc_abi.proofs.EncoderState.Laws as e′
-use Rattle.sbc_abi.proofs.CodedNumbers as c
-use Rattle.sbc_abi.proofs.CodedNumbers.Laws as c′
-use Rattle.sbc_abi.proofs.SeekNumbers as s
-use Rattle.sbc_abi.proofs.SeekNumbers.Laws as s′
-use Rattle.sbc_abi.proofs.ParameterNumbers as p
-use Rattle.sbc_abi.proofs.ParameterNumbers.Laws as p′
-use Rattle.sbc_abi.proofs.decoder.DecodedState as decode
-use Rattle.sbc_abi.proofs.decoder.SoughtState as seek
-use Rattle.sbc_abi.proofs.encoder.CreatedState as create
-use Rattle.sbc_abi.proofs.encoder.EncodedState as encode
+use Rattle.abi_decoder.specs.declared.DecodedState.{DecodedState}
+use Rattle.abi_decoder.specs.declared.SoughtState.{SoughtState}
+use Rattle.abi_encoder.specs.declared.CreatedState.{CreatedState}
+use Rattle.abi_encoder.specs.declared.EncodedState.{EncodedState}
+use Rattle.abi_decoder.proofs.DecoderState as d
+use Rattle.abi_decoder.proofs.DecoderState.Laws as d′
+use Rattle.abi_encoder.proofs.EncoderState as e
+use Rattle.abi_encoder.proofs.EncoderState.Laws as e′
+use Rattle.abi_numbers.proofs.CodedNumbers as c
+use Rattle.abi_numbers.proofs.CodedNumbers.Laws as c′
+use Rattle.abi_decoder.proofs.SeekNumbers as s
+use Rattle.abi_decoder.proofs.SeekNumbers.Laws as s′
+use Rattle.abi_numbers.proofs.ParameterNumbers as p
+use Rattle.abi_numbers.proofs.ParameterNumbers.Laws as p′
+use Rattle.abi_decoder.proofs.DecodedState as decode
+use Rattle.abi_decoder.proofs.SoughtState as seek
+use Rattle.abi_encoder.proofs.CreatedState as create
+use Rattle.abi_encoder.proofs.EncodedState as encode
 
 abbrev pub decoder : Struct
 decoder = record { type = d.the-type; laws = d′.the-laws; lowers = d′.lowers; plain = d′.the-plain }

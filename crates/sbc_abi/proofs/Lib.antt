@@ -1,5 +1,2 @@
--- Laws of the numbers that cross to C: what a state stands for and back, the calls on a state, and that a refusal leaves all unchanged.
-pub mod Numbers
-pub mod Decoding
-pub mod Encoding
+-- No laws for other crates: `Lending` is for the proofs of the lent calls.
 mod Lending

@@ -1,121 +1,13 @@
-// The encoder's calls on a state of numbers: by value, and below on a state that is lent. A lent one is thin: the state is copied out, the call by
-// value does the work, and the state that it gave back is stored.
-use crate::CodedNumbers;
-use crate::EncoderState;
-use crate::ParameterNumbers;
-use crate::decoder::coded_numbers;
-use crate::is_accepted;
-use crate::is_set;
-use crate::numbers_of;
-use crate::parameters_in;
-use sbc_encoder::Analysis;
-use sbc_encoder::SbcEncoder;
+// The encoder's calls on a state that is lent. Each is thin: the state is copied out, the call by value of `abi_encoder` does the work, and the
+// state that it gave back is stored.
+use abi_encoder::EncoderState;
+use abi_encoder::created;
+use abi_encoder::encoded;
+use abi_encoder::restarted;
+use abi_numbers::CodedNumbers;
+use abi_numbers::ParameterNumbers;
 ghost use mathlib.Core.Path.{_≡_};
-ghost use Rattle.sbc_encoder.specs.Encode.{encode};
-ghost use Rattle.sbc_abi.specs.Encoder.{encoderIn, stateOf, toldEncode, afterEncode, encodeState, createState, resetState};
-
-// What an encode call gives back, and the state after it.
-pub struct EncodedState {
-    pub answer: CodedNumbers,
-    pub state: EncoderState,
-}
-
-// Whether the parameters of a new encoder are accepted, 0 or 3, and its state.
-pub struct CreatedState {
-    pub refusal: u8,
-    pub state: EncoderState,
-}
-
-// ---- an encoder as numbers
-
-// The encoder that a state stands for.
-fn encoder_in(state: EncoderState) -> SbcEncoder
-    ensures { λ r. ⌜ r ≡ encoderIn state ⌝ }
-{
-    let left = state.left;
-    let right = state.right;
-    let numbers = state.parameters;
-    SbcEncoder {
-        parameters: parameters_in(numbers),
-        analysis: [Analysis { history: left }, Analysis { history: right }],
-    }
-}
-
-// The state of an encoder.
-fn state_of(encoder: SbcEncoder) -> EncoderState
-    ensures { λ r. ⌜ r ≡ stateOf encoder ⌝ }
-{
-    let parameters = encoder.parameters;
-    let first = encoder.analysis[0];
-    let second = encoder.analysis[1];
-    let left = first.history;
-    let right = second.history;
-    EncoderState {
-        left,
-        right,
-        parameters: numbers_of(parameters),
-    }
-}
-
-// ---- the calls by value
-
-// A new encoder with these parameters; the state stays where they are not accepted.
-fn created(state: EncoderState, parameters: ParameterNumbers) -> CreatedState
-    ensures { λ r. ⌜ r ≡ createState state parameters ⌝ }
-{
-    if is_accepted(parameters) {
-        let made = SbcEncoder::new(parameters_in(parameters));
-        let encoder = made.encoder;
-        return CreatedState {
-            refusal: 0,
-            state: state_of(encoder),
-        };
-    }
-    CreatedState { refusal: 3, state }
-}
-
-// Silence again; a state that stands for no encoder stays.
-fn restarted(state: EncoderState) -> EncoderState
-    ensures { λ r. ⌜ r ≡ resetState state ⌝ }
-{
-    let numbers = state.parameters;
-    if is_set(numbers) {
-        return state_of(encoder_in(state).restarted());
-    }
-    state
-}
-
-// Encodes with an encoder, and gives back its state.
-fn encoded_with(encoder: SbcEncoder, input: &[i16], output: &mut [u8]) -> EncodedState
-    ensures { λ r. ⌜ toldEncode r (now (output .exit)) ≡ afterEncode (encode encoder (now (input .entry)) (now (output .entry))) ⌝ }
-{
-    let result = encoder.encoded(input, output);
-    let answer = result.answer;
-    let next = result.encoder;
-    EncodedState {
-        answer: coded_numbers(answer),
-        state: state_of(next),
-    }
-}
-
-fn encoded(state: EncoderState, input: &[i16], output: &mut [u8]) -> EncodedState
-    ensures { λ r. ⌜ toldEncode r (now (output .exit)) ≡ encodeState state (now (input .entry)) (now (output .entry)) ⌝ }
-{
-    let numbers = state.parameters;
-    if is_set(numbers) {
-        return encoded_with(encoder_in(state), input, output);
-    }
-    EncodedState {
-        answer: CodedNumbers {
-            consumed: 0,
-            produced: 0,
-            refusal: 3,
-        },
-        state,
-    }
-}
-
-// ---- the calls on a state that is lent
+ghost use Rattle.abi_encoder.specs.Encoder.{toldEncode, encodeState, createState, resetState};
 
 // Makes a new encoder, with silence in both channels: 0, or 3 where the parameters are not accepted.
 #[no_mangle]

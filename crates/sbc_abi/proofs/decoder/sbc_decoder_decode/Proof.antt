@@ -6,12 +6,12 @@ use mathlib.Core.List.{List}
 use lib.IntN.{ℤ}
 use denote.Builtin.{u8, i16}
 use Rattle.lending.proofs.Slices.{Thin, function, lent-call}
-use Rattle.sbc_abi.specs.Decoder.{toldDecode, decodeState}
-use Rattle.sbc_abi.specs.declared.DecoderState.{DecoderState}
-use Rattle.sbc_abi.specs.declared.CodedNumbers.{CodedNumbers}
+use Rattle.abi_decoder.specs.Decoder.{toldDecode, decodeState}
+use Rattle.abi_decoder.specs.declared.DecoderState.{DecoderState}
+use Rattle.abi_numbers.specs.declared.CodedNumbers.{CodedNumbers}
 use Rattle.sbc_abi.proofs.Lending.{decoder, coded, decode-result}
-use Rattle.sbc_abi.proofs.decoder.decoded.Symbol.{name as #core, routine}
-use Rattle.sbc_abi.proofs.decoder.decoded.Met.{met}
+use Rattle.abi_decoder.proofs.decoded.Symbol.{name as #core, routine}
+use Rattle.abi_decoder.proofs.decoded.Met.{met}
 use Rattle.sbc_abi.proofs.decoder.sbc_decoder_decode.Key.{name as #lent}
 use Rattle.sbc_abi.proofs.decoder.sbc_decoder_decode.{clauses}
 use Rattle.sbc_abi.proofs.decoder.sbc_decoder_decode.Statement.{statement}

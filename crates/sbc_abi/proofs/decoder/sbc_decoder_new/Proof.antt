@@ -3,11 +3,11 @@
 use mathlib.Core.Path.{_≡_, refl}
 use Rattle.lending.proofs.Made.{Thin, function, lent-call}
 use Rattle.sbc_decoder.specs.Decode.{newDecoder}
-use Rattle.sbc_abi.specs.Decoder.{stateOf}
-use Rattle.sbc_abi.specs.declared.DecoderState.{DecoderState}
+use Rattle.abi_decoder.specs.Decoder.{stateOf}
+use Rattle.abi_decoder.specs.declared.DecoderState.{DecoderState}
 use Rattle.sbc_abi.proofs.Lending.{decoder}
-use Rattle.sbc_abi.proofs.decoder.new_state.Symbol.{name as #core, routine}
-use Rattle.sbc_abi.proofs.decoder.new_state.Met.{met}
+use Rattle.abi_decoder.proofs.new_state.Symbol.{name as #core, routine}
+use Rattle.abi_decoder.proofs.new_state.Met.{met}
 use Rattle.sbc_abi.proofs.decoder.sbc_decoder_new.Key.{name as #lent}
 use Rattle.sbc_abi.proofs.decoder.sbc_decoder_new.{clauses}
 use Rattle.sbc_abi.proofs.decoder.sbc_decoder_new.Statement.{statement}

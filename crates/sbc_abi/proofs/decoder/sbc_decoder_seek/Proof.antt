@@ -4,13 +4,13 @@ use Prim.Native.Nat.{ℕ}
 use mathlib.Core.Path.{_≡_, refl}
 use Rattle.lending.proofs.Types.{passed-u64}
 use Rattle.lending.proofs.Passed.{Thin, function, lent-call}
-use Rattle.sbc_abi.specs.Decoder.{seekState}
-use Rattle.sbc_abi.specs.declared.DecoderState.{DecoderState}
-use Rattle.sbc_abi.specs.declared.SeekNumbers.{SeekNumbers}
-use Rattle.sbc_abi.specs.declared.decoder.SoughtState.{SoughtState}
+use Rattle.abi_decoder.specs.Decoder.{seekState}
+use Rattle.abi_decoder.specs.declared.DecoderState.{DecoderState}
+use Rattle.abi_decoder.specs.declared.SeekNumbers.{SeekNumbers}
+use Rattle.abi_decoder.specs.declared.SoughtState.{SoughtState}
 use Rattle.sbc_abi.proofs.Lending.{decoder, seek-answer, sought}
-use Rattle.sbc_abi.proofs.decoder.sought.Symbol.{name as #core, routine}
-use Rattle.sbc_abi.proofs.decoder.sought.Met.{met}
+use Rattle.abi_decoder.proofs.sought.Symbol.{name as #core, routine}
+use Rattle.abi_decoder.proofs.sought.Met.{met}
 use Rattle.sbc_abi.proofs.decoder.sbc_decoder_seek.Key.{name as #lent}
 use Rattle.sbc_abi.proofs.decoder.sbc_decoder_seek.{clauses}
 use Rattle.sbc_abi.proofs.decoder.sbc_decoder_seek.Statement.{statement}

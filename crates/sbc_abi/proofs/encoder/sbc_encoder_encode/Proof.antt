@@ -6,12 +6,12 @@ use mathlib.Core.List.{List}
 use lib.IntN.{ℤ}
 use denote.Builtin.{u8, i16}
 use Rattle.lending.proofs.Slices.{Thin, function, lent-call}
-use Rattle.sbc_abi.specs.Encoder.{toldEncode, encodeState}
-use Rattle.sbc_abi.specs.declared.EncoderState.{EncoderState}
-use Rattle.sbc_abi.specs.declared.CodedNumbers.{CodedNumbers}
+use Rattle.abi_encoder.specs.Encoder.{toldEncode, encodeState}
+use Rattle.abi_encoder.specs.declared.EncoderState.{EncoderState}
+use Rattle.abi_numbers.specs.declared.CodedNumbers.{CodedNumbers}
 use Rattle.sbc_abi.proofs.Lending.{encoder, coded, encode-result}
-use Rattle.sbc_abi.proofs.encoder.encoded.Symbol.{name as #core, routine}
-use Rattle.sbc_abi.proofs.encoder.encoded.Met.{met}
+use Rattle.abi_encoder.proofs.encoded.Symbol.{name as #core, routine}
+use Rattle.abi_encoder.proofs.encoded.Met.{met}
 use Rattle.sbc_abi.proofs.encoder.sbc_encoder_encode.Key.{name as #lent}
 use Rattle.sbc_abi.proofs.encoder.sbc_encoder_encode.{clauses}
 use Rattle.sbc_abi.proofs.encoder.sbc_encoder_encode.Statement.{statement}

@@ -4,13 +4,13 @@ use Prim.Native.Nat.{ℕ}
 use mathlib.Core.Path.{_≡_, refl}
 use Rattle.lending.proofs.Types.{of-u8}
 use Rattle.lending.proofs.Passed.{Thin, function, lent-call}
-use Rattle.sbc_abi.specs.Encoder.{createState}
-use Rattle.sbc_abi.specs.declared.EncoderState.{EncoderState}
-use Rattle.sbc_abi.specs.declared.ParameterNumbers.{ParameterNumbers}
-use Rattle.sbc_abi.specs.declared.encoder.CreatedState.{CreatedState}
+use Rattle.abi_encoder.specs.Encoder.{createState}
+use Rattle.abi_encoder.specs.declared.EncoderState.{EncoderState}
+use Rattle.abi_numbers.specs.declared.ParameterNumbers.{ParameterNumbers}
+use Rattle.abi_encoder.specs.declared.CreatedState.{CreatedState}
 use Rattle.sbc_abi.proofs.Lending.{encoder, parameters, created}
-use Rattle.sbc_abi.proofs.encoder.created.Symbol.{name as #core, routine}
-use Rattle.sbc_abi.proofs.encoder.created.Met.{met}
+use Rattle.abi_encoder.proofs.created.Symbol.{name as #core, routine}
+use Rattle.abi_encoder.proofs.created.Met.{met}
 use Rattle.sbc_abi.proofs.encoder.sbc_encoder_new.Key.{name as #lent}
 use Rattle.sbc_abi.proofs.encoder.sbc_encoder_new.{clauses}
 use Rattle.sbc_abi.proofs.encoder.sbc_encoder_new.Statement.{statement}

@@ -2,11 +2,11 @@
 -- Assumes nothing.
 use mathlib.Core.Path.{_≡_, refl}
 use Rattle.lending.proofs.Alone.{Thin, function, lent-call}
-use Rattle.sbc_abi.specs.Encoder.{resetState}
-use Rattle.sbc_abi.specs.declared.EncoderState.{EncoderState}
+use Rattle.abi_encoder.specs.Encoder.{resetState}
+use Rattle.abi_encoder.specs.declared.EncoderState.{EncoderState}
 use Rattle.sbc_abi.proofs.Lending.{encoder}
-use Rattle.sbc_abi.proofs.encoder.restarted.Symbol.{name as #core, routine}
-use Rattle.sbc_abi.proofs.encoder.restarted.Met.{met}
+use Rattle.abi_encoder.proofs.restarted.Symbol.{name as #core, routine}
+use Rattle.abi_encoder.proofs.restarted.Met.{met}
 use Rattle.sbc_abi.proofs.encoder.sbc_encoder_reset.Key.{name as #lent}
 use Rattle.sbc_abi.proofs.encoder.sbc_encoder_reset.{clauses}
 use Rattle.sbc_abi.proofs.encoder.sbc_encoder_reset.Statement.{statement}
