@@ -18,10 +18,11 @@ use Rattle.laws.proofs.Arrays.{filled-ext, getD-filled, overwrite-ext}
 use Rattle.sbc_filterbank.specs.Subbands.{Bands, padded}
 use Rattle.sbc_filterbank.specs.Synthesis.{modulatedAt, modulated, vectorPlace, rounded, synthesisOutputs}
 use Rattle.sbc_filterbank.specs.Ring.{ring, nextSlot, ringPushed}
-use Rattle.sbc_synthesize.specs.Fold.{pairOf, rowSum, rowValue, OutputSums}
+use Rattle.sbc_modulate.specs.Fold.{pairOf, rowSum, rowValue}
+use Rattle.sbc_synthesize.specs.Summing.{OutputSums}
 use Rattle.sbc_filterbank.proofs.Bands.{for-bands, bands-le, padded-is}
 use Rattle.sbc_filterbank.proofs.Ring.{place-below}
-use Rattle.sbc_synthesize.proofs.Rows.{row-value-is}
+use Rattle.sbc_modulate.proofs.Rows.{row-value-is}
 
 -- ---- the place in a vector, as the code has it
 pub place-is : (S j b : ℕ) → b % 2 * S + j ≡ vectorPlace S j b

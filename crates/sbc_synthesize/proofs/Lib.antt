@@ -1,5 +1,4 @@
--- The rows that the code folds, the sums that it takes and rounds and the ring that it reads are those of the definition.
-mod Rows
+-- The sums that the code takes and rounds and the ring that it reads are those of the definition.
 mod Samples
 mod Rounding
 mod Blocks

@@ -15,7 +15,7 @@ use Rattle.laws.proofs.Abs.{natAbs-+, natAbs--, within-fits, sum-fits, differen
 use Rattle.laws.proofs.Difference.{sub-of-le, sub-of-lt}
 use Rattle.laws.proofs.Floor.{natAbs-floor}
 use Rattle.sbc_filterbank.specs.Synthesis.{roundingBits, rounded}
-use Rattle.sbc_synthesize.specs.Fold.{outputBound}
+use Rattle.sbc_synthesize.specs.Summing.{outputBound}
 
 pub negated-sum : (z : ℤ) → natAbs z ≤ outputBound → SFits w64 (pos 0 -ℤ z)
 negated-sum z h = difference-fits w64 {a = 0} {b = outputBound} (pos 0) z (lit≤ tt) h (lit< tt)

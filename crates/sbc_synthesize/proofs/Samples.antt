@@ -16,7 +16,7 @@ use Rattle.laws.proofs.Table.{at}
 use Rattle.sbc_tables.specs.Tables.{prototype, prototype4, prototype8}
 use Rattle.sbc_filterbank.specs.Subbands.{Bands, prototypeAt}
 use Rattle.sbc_filterbank.specs.Synthesis.{vectorAt, vectorPlace, sampleTerm}
-use Rattle.sbc_synthesize.specs.Fold.{tapSum, outputBound, OutputSums}
+use Rattle.sbc_synthesize.specs.Summing.{tapSum, outputBound, OutputSums}
 use Rattle.sbc_filterbank.proofs.Bands.{for-bands, bands-le}
 use Rattle.sbc_filterbank.proofs.Bounds.{Summed}
 
