@@ -1,7 +1,7 @@
 -- A block of a channel's PCM analyzed from an array of eight; one block more of a channel: the history after it, and its subband samples in
 -- their places behind those of the blocks before it.
 -- Assumes nothing.
-use Prim.Native.Nat.{ℕ, suc, _+_, _*_, _-_, _≤_, _<_}
+use Prim.Native.Nat.{ℕ, suc, _+_, _*_, _-_, _/_, _%_, _≤_, _<_}
 use mathlib.Core.Path.{_≡_, refl, sym, ap, _∙_, subst}
 use mathlib.Core.Logic.{_⊎_, inl, inr}
 use mathlib.Core.Bool.{Bool, true, false}
@@ -9,20 +9,21 @@ use mathlib.Core.List.{List, [], _∷_, _++_}
 use native.Mathlib.Nat.{eq-or-lt-of-le, suc-mul, mul-comm, mul-le-mul-right}
 use native.Mathlib.Omega.{arith}
 use lib.Dec.{ltb}
-use lib.ListN.{length, getD, take, drop, List·getD-append}
+use lib.ListN.{length, getD, take, drop, replicate, List·getD-append}
 use lib.Seq.{getD-take, getD-drop, getD-at}
 use lib.IntN.{ℤ, pos}
 use borrow.Author.Tests.{ltb-true}
 use Rattle.laws.specs.Lists.{build}
 use Rattle.laws.specs.Sums.{upTo, overwrite}
 use Rattle.laws.proofs.Lists.{getD-build, build-ext}
-use Rattle.laws.proofs.Arrays.{getD-filled, overwrite-below, overwrite-at}
+use Rattle.laws.proofs.Arrays.{fill-none, getD-filled, length-overwrite, overwrite-below, overwrite-above, overwrite-at}
 use Rattle.sbc_filterbank.specs.Subbands.{Bands, padded}
 use Rattle.sbc_filterbank.specs.Analysis.{shiftedAt, shifted, analysisOutputs}
 use Rattle.sbc_filterbank.proofs.Bands.{bands-le, padded-at}
 use Rattle.sbc_frame.specs.Channels.{pcmIn, analyzeBlocks, analysisAfter}
 use Rattle.sbc_frame.specs.Encoding.{sampleAt}
-use Rattle.sbc_frame.specs.Arrays.{sampleIn, SamplesIn}
+use Rattle.sbc_frame.specs.Arrays.{sampleIn, SamplesIn, samplesArray}
+use Rattle.sbc_frame.proofs.Columns.{length-array, array-holds, array-behind, array-is}
 use Rattle.sbc_frame.proofs.Blocks.{analysis-after-next, analyze-next, length-analyzeBlocks}
 
 -- ---- a block
@@ -54,6 +55,10 @@ module _ {S : ℕ} (C c b : ℕ) (X input pcm after outputs : List ℤ) (bands :
 
 -- ---- the blocks of a channel
 -- no block yet
+pub array-none : (samples : List (List ℤ)) → replicate 128 (pos 0) ≡ samplesArray 0 samples
+unfolding samplesArray
+array-none samples = fill-none 128 (λ k. sampleAt samples (k / 8) (k % 8))
+
 pub analysis-none : (S : ℕ) (X pcm : List ℤ) → X ≡ analysisAfter 0 S X pcm
 unfolding analysisAfter
 analysis-none S X pcm = refl
@@ -81,7 +86,7 @@ module _ (S C c n b : ℕ) (X input old new : List ℤ) (less : b < n) (e : old 
   analysis-next = new-is ∙ sym (analysis-after-next S b X PCM)
 
   -- its samples stand behind those of the blocks before it
-  pub samples-next : (outputs xs ys : List ℤ) → outputs ≡ padded (analysisOutputs S new)
+  samples-next : (outputs xs ys : List ℤ) → outputs ≡ padded (analysisOutputs S new)
       → ys ≡ overwrite (8 * b) 8 (λ s. getD outputs s (pos 0)) xs → 8 * b + 8 ≤ length xs → SamplesIn b (analyzeBlocks b S X PCM) xs
       → SamplesIn (b + 1) (analyzeBlocks (b + 1) S X PCM) ys
   samples-next outputs xs ys o w room held k s h lt =
@@ -103,3 +108,16 @@ module _ (S C c n b : ℕ) (X input old new : List ℤ) (less : b < n) (e : old 
           overwrite-below (8 * b) f xs 8 (8 * k + s) (pos 0) (omega arith) ∙ held k s l lt
           ∙ sym (ap (λ (m : List ℤ). getD m s (pos 0))
           (List·getD-append before (analysisOutputs S new ∷ []) [] k (omega (arith, length-analyzeBlocks S b X PCM))))
+
+  pub array-next : (outputs xs ys : List ℤ) → b < 16 → outputs ≡ padded (analysisOutputs S new)
+      → ys ≡ overwrite (8 * b) 8 (λ s. getD outputs s (pos 0)) xs → xs ≡ samplesArray b (analyzeBlocks b S X PCM)
+      → ys ≡ samplesArray (b + 1) (analyzeBlocks (b + 1) S X PCM)
+  array-next outputs xs ys m o w h =
+      let f : ℕ → ℤ = λ s. getD outputs s (pos 0) in
+      let before = analyzeBlocks b S X PCM in
+      let long : length xs ≡ 128 = ap length h ∙ length-array b before in
+      let held : SamplesIn b before xs = subst (SamplesIn b before) (sym h) (array-holds b before (omega arith)) in
+      array-is (b + 1) (analyzeBlocks (b + 1) S X PCM) ys (ap length w ∙ length-overwrite (8 * b) f xs 8 ∙ long)
+      (samples-next outputs xs ys o w (omega (arith, long)) held)
+      (λ k l. ap (λ (zs : List ℤ). getD zs k (pos 0)) w ∙ overwrite-above (8 * b) f xs 8 k (pos 0) (omega arith)
+      ∙ ap (λ (zs : List ℤ). getD zs k (pos 0)) h ∙ array-behind b before k (omega arith))

@@ -3,14 +3,16 @@ use sbc_analyze::analyze4;
 use sbc_analyze::analyze8;
 ghost use mathlib.Core.Path.{_≡_};
 ghost use Prim.Native.Nat.{_+_, _*_, _≤_, _<_};
-ghost use lib.ListN.{length, getD};
+ghost use lib.Dec.{eqb};
+ghost use lib.ListN.{length, getD, replicate};
 ghost use lib.IntN.{pos};
+ghost use Rattle.laws.specs.Choice.{if_then_else_};
 ghost use Rattle.laws.specs.Lists.{build};
 ghost use Rattle.laws.specs.Sums.{upTo, overwrite};
 ghost use Rattle.sbc_filterbank.specs.Analysis.{shifted, analysisOutputs};
 ghost use Rattle.sbc_filterbank.specs.Subbands.{Bands, padded};
 ghost use Rattle.sbc_frame.specs.Channels.{pcmIn, analyzeBlocks, analysisAfter};
-ghost use Rattle.sbc_frame.specs.Arrays.{SamplesIn};
+ghost use Rattle.sbc_frame.specs.Arrays.{samplesArray};
 
 // `count` samples of a channel, from its sample `from` on. PCM of two channels alternates.
 fn pcm_block(input: &[i16], from: usize, count: usize, channel: usize, channels: usize) -> [i16; 8]
@@ -66,7 +68,7 @@ pub fn analyze_channel(
 ) -> [i32; 128]
     requires { ⌜ (Bands subbands) × (blocks ≤ 16) × (channel < channels) × (channels ≤ 2) × (blocks * subbands * channels ≤ length (now input)) ⌝ }
     ensures history { λ r. ⌜ now (history .exit) ≡ analysisAfter blocks subbands (now (history .entry)) (pcmIn channels channel (blocks * subbands) (now (input .entry))) ⌝ }
-    ensures samples { λ r. ⌜ (length r ≡ 128) × (SamplesIn blocks (analyzeBlocks blocks subbands (now (history .entry)) (pcmIn channels channel (blocks * subbands) (now (input .entry)))) r) ⌝ }
+    ensures samples { λ r. ⌜ r ≡ samplesArray blocks (analyzeBlocks blocks subbands (now (history .entry)) (pcmIn channels channel (blocks * subbands) (now (input .entry)))) ⌝ }
 {
     let mut samples = [0i32; 128];
     for block in 0..blocks {
@@ -85,8 +87,8 @@ pub fn analyze_second(
     channels: usize,
 ) -> [i32; 128]
     requires { ⌜ (Bands subbands) × (blocks ≤ 16) × (0 < channels) × (channels ≤ 2) × (blocks * subbands * channels ≤ length (now input)) ⌝ }
-    ensures one { λ r. ⌜ (channels ≡ 1 → now (history .exit) ≡ now (history .entry)) ⌝ }
-    ensures two { λ r. ⌜ (channels ≡ 2 → (now (history .exit) ≡ analysisAfter blocks subbands (now (history .entry)) (pcmIn channels 1 (blocks * subbands) (now (input .entry)))) × (SamplesIn blocks (analyzeBlocks blocks subbands (now (history .entry)) (pcmIn channels 1 (blocks * subbands) (now (input .entry)))) r)) ⌝ }
+    ensures history { λ r. ⌜ now (history .exit) ≡ (if eqb channels 1 then now (history .entry) else analysisAfter blocks subbands (now (history .entry)) (pcmIn channels 1 (blocks * subbands) (now (input .entry)))) ⌝ }
+    ensures samples { λ r. ⌜ r ≡ (if eqb channels 1 then replicate 128 (pos 0) else samplesArray blocks (analyzeBlocks blocks subbands (now (history .entry)) (pcmIn channels 1 (blocks * subbands) (now (input .entry))))) ⌝ }
     ensures long { λ r. ⌜ length r ≡ 128 ⌝ }
 {
     if channels == 1 {

@@ -8,10 +8,10 @@ use mathlib.Core.Bool.{Bool, true, false}
 use mathlib.Core.List.{List, [], _∷_, _++_, append-assoc, append-nil}
 use native.Mathlib.Nat.{le-of-suc-le-suc, eq-or-lt-of-le}
 use native.Mathlib.Omega.{arith}
-use lib.Dec.{ltb}
-use lib.IntN.{ℤ}
-use lib.ListN.{length, getD}
-use borrow.Author.Tests.{ltb-true, ltb-false, lt-ltb}
+use lib.Dec.{eqb, ltb}
+use lib.IntN.{ℤ, pos}
+use lib.ListN.{length, getD, replicate}
+use borrow.Author.Tests.{ltb-true, ltb-false, lt-ltb, eq-eqb, ne-eqb}
 use Rattle.laws.specs.Choice.{if_then_else_}
 use Rattle.laws.specs.Lists.{collect, build}
 use Rattle.laws.specs.Bits.{odd, digit, bitsOf}
@@ -28,12 +28,13 @@ use Rattle.sbc_frame.specs.Fields.{Fields, factorAt, valueAt, widthAt}
 use Rattle.sbc_frame.specs.Layout.{flagBits, channelFactorBits, factorBits, channelValueBits, blockValueBits, valueBits, bodyBits, filled, body, pack}
 use Rattle.sbc_frame.specs.Channels.{pcmIn, channelPcm, analyzeBlocks, analysisAfter}
 use Rattle.sbc_frame.specs.Encoding.{sampleAt, channelSamples, factorOf, isJoined, codedAt, codedFactors, codedValues, codedFields, analysisHistories}
-use Rattle.sbc_frame.specs.Arrays.{entry, SamplesIn}
+use Rattle.sbc_frame.specs.Arrays.{entry, sampleIn, samplesArray}
 use Rattle.sbc_code.specs.Coding.{ChannelsIn, CodingIn}
 use Rattle.sbc_write.specs.Writing.{rowBits, blockBitsOf, valueBitsOf}
 use Rattle.sbc_write_frame.specs.Framing.{codingBits, codingBytes}
 use Rattle.sbc_frame.proofs.Widths.{Enough, allocate-agree, table-width, width-none, width-absent}
 use Rattle.sbc_frame.proofs.Sizes.{row-sizes}
+use Rattle.sbc_frame.proofs.Columns.{array-holds}
 
 -- ---- lists end to end
 collect-ext : (n : ℕ) (f g : ℕ → List Bool) → ((i : ℕ) → i < n → f i ≡ g i) → collect n f ≡ collect n g
@@ -232,10 +233,10 @@ module _ (p : SbcParameters) (C : ℕ) (e : C ≡ channels p) (l r input : List 
   pcm-is c = ap (λ (n : ℕ). pcmIn n c (p .blocks * p .subbands) input) e
 
   -- the histories after it
-  pub histories-analyzed : (l′ r′ : List ℤ) → l′ ≡ analysisAfter (p .blocks) (p .subbands) l (pcm 0) → (C ≡ 1 → r′ ≡ r)
-      → (C ≡ 2 → r′ ≡ analysisAfter (p .blocks) (p .subbands) r (pcm 1)) → l′ ∷ r′ ∷ [] ≡ analysisHistories p (l ∷ r ∷ []) input
+  pub histories-analyzed : (l′ r′ : List ℤ) → l′ ≡ analysisAfter (p .blocks) (p .subbands) l (pcm 0)
+      → r′ ≡ (if eqb C 1 then r else analysisAfter (p .blocks) (p .subbands) r (pcm 1)) → l′ ∷ r′ ∷ [] ≡ analysisHistories p (l ∷ r ∷ []) input
   unfolding analysisHistories build collect
-  histories-analyzed l′ r′ el one two =
+  histories-analyzed l′ r′ el er =
       ap₂ (λ (a b : List ℤ). a ∷ b ∷ [])
       (el ∙ ap (analysisAfter (p .blocks) (p .subbands) l) (pcm-is 0) ∙ sym (rw (lt-ltb 0 (channels p) (channels-range p .0))))
       (go (ltb 1 (channels p)) refl)
@@ -244,17 +245,20 @@ module _ (p : SbcParameters) (C : ℕ) (e : C ≡ channels p) (l r input : List 
           → r′ ≡ (if ltb 1 (channels p) then analysisAfter (p .blocks) (p .subbands) r (channelPcm p input 1) else r)
       go true h =
           rw h
-          (two (omega (arith, ltb-true 1 (channels p) h, channels-range p .1)) ∙ ap (analysisAfter (p .blocks) (p .subbands) r) (pcm-is 1))
-      go false h = rw h (one (omega (arith, ltb-false 1 (channels p) h, channels-range p .0)))
+          (er ∙ rw (ne-eqb C 1 (λ q. omega (arith, q, e, ltb-true 1 (channels p) h))) (ap (analysisAfter (p .blocks) (p .subbands) r) (pcm-is 1)))
+      go false h = rw h (er ∙ rw (eq-eqb C 1 (omega (arith, e, ltb-false 1 (channels p) h, channels-range p .0))))
 
   -- the samples of the channels
-  pub channels-analyzed : (left right : List ℤ) → SamplesIn (p .blocks) (analyzeBlocks (p .blocks) (p .subbands) l (pcm 0)) left
-      → (C ≡ 2 → SamplesIn (p .blocks) (analyzeBlocks (p .blocks) (p .subbands) r (pcm 1)) right)
+  pub channels-analyzed : p .blocks ≤ 16 → (left right : List ℤ) → left ≡ samplesArray (p .blocks) (analyzeBlocks (p .blocks) (p .subbands) l (pcm 0))
+      → right ≡ (if eqb C 1 then replicate 128 (pos 0) else samplesArray (p .blocks) (analyzeBlocks (p .blocks) (p .subbands) r (pcm 1)))
       → ChannelsIn p (channelSamples p (l ∷ r ∷ []) input) left right
   unfolding channelSamples
-  channels-analyzed left right hl hr zero hc b s hb hs =
-      hl b s hb hs ∙ ap (λ (x : List ℤ). sampleAt (analyzeBlocks (p .blocks) (p .subbands) l x) b s) (pcm-is 0)
-  channels-analyzed left right hl hr (suc zero) hc b s hb hs =
-      hr (omega (arith, channels-range p .1)) b s hb hs
+  channels-analyzed m left right hl hr zero hc b s hb hs =
+      ap (λ (xs : List ℤ). sampleIn xs b s) hl ∙ array-holds (p .blocks) (analyzeBlocks (p .blocks) (p .subbands) l (pcm 0)) m b s hb hs
+      ∙ ap (λ (x : List ℤ). sampleAt (analyzeBlocks (p .blocks) (p .subbands) l x) b s) (pcm-is 0)
+  channels-analyzed m left right hl hr (suc zero) hc b s hb hs =
+      let there : right ≡ samplesArray (p .blocks) (analyzeBlocks (p .blocks) (p .subbands) r (pcm 1)) = hr ∙ rw (ne-eqb C 1 (λ q. omega (arith, q, e))) in
+      ap (λ (xs : List ℤ). sampleIn xs b s) there
+      ∙ array-holds (p .blocks) (analyzeBlocks (p .blocks) (p .subbands) r (pcm 1)) m b s hb hs
       ∙ ap (λ (x : List ℤ). sampleAt (analyzeBlocks (p .blocks) (p .subbands) r x) b s) (pcm-is 1)
-  channels-analyzed left right hl hr (suc (suc c)) hc b s hb hs = absurd (omega (arith, channels-range p .1))
+  channels-analyzed m left right hl hr (suc (suc c)) hc b s hb hs = absurd (omega (arith, channels-range p .1))

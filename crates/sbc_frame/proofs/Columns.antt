@@ -1,9 +1,10 @@
--- An array of samples with those of one subband replaced, block by block: what is stored, and which samples change.
+-- An array of samples with those of one subband replaced, block by block: what is stored, and which samples change. The array of the samples of
+-- the first blocks.
 -- Assumes nothing.
 use Prim.Native.Nat.{ℕ, _+_, _*_, _/_, _%_, _≤_, _<_}
-use mathlib.Core.Path.{_≡_, refl, sym, ap, _∙_}
+use mathlib.Core.Path.{_≡_, refl, sym, ap, ap₂, _∙_}
 use mathlib.Core.Logic.{_≢_}
-use mathlib.Core.Bool.{_&&_}
+use mathlib.Core.Bool.{Bool, true, false, _&&_}
 use mathlib.Core.List.{List}
 use native.Mathlib.Nat.{le-refl}
 use native.Mathlib.Decide.{ℕ-discrete}
@@ -17,9 +18,12 @@ use mir.Facts.{toZ-ofZ}
 use borrow.Author.Tests.{lt-ltb, le-ltb, eq-eqb, ltb-true, ltb-false, eqb-true, eqb-false}
 use Rattle.laws.specs.Choice.{if_then_else_}
 use Rattle.laws.proofs.Cases.{by-test, by-both}
-use Rattle.laws.proofs.Lists.{length-build, getD-build, build-is}
-use Rattle.laws.proofs.Arrays.{build-set}
-use Rattle.sbc_frame.specs.Arrays.{withSubband, sampleIn}
+use Rattle.laws.proofs.Lists.{length-build, getD-build, getD-build-out, build-is}
+use Rattle.laws.specs.Lists.{build}
+use Rattle.laws.specs.Sums.{upTo}
+use Rattle.laws.proofs.Arrays.{build-set, getD-filled}
+use Rattle.sbc_frame.specs.Encoding.{sampleAt}
+use Rattle.sbc_frame.specs.Arrays.{withSubband, sampleIn, SamplesIn, samplesArray}
 
 module _ (s : ℕ) (f : ℕ → ℤ) (xs : List ℤ) where
   -- what stands at a place, with n blocks replaced
@@ -126,3 +130,41 @@ module _ (blocks : ℕ) (g h : ℕ → ℕ → ℤ) where
         go : Dec (s ≡ n) → mixture n b s ≡ mixture (n + 1) b s
         go (yes r) = rw r (rw (le-ltb n n (le-refl n)) (same b p ∙ sym (rw (lt-ltb n (n + 1) (omega arith)))))
         go (no ne) = mixture-next n b s ne
+
+-- ---- the array of the samples of n blocks
+module _ (n : ℕ) (samples : List (List ℤ)) where
+  -- what stands at a place of a block
+  abbrev placed : ℕ → ℤ
+  placed k = sampleAt samples (k / 8) (k % 8)
+
+  pub length-array : length (samplesArray n samples) ≡ 128
+  unfolding samplesArray
+  length-array = length-build 128 (upTo (8 * n) placed)
+
+  pub array-holds : n ≤ 16 → SamplesIn n samples (samplesArray n samples)
+  unfolding samplesArray
+  array-holds m b s p q =
+      let place : (8 * b + s) % 8 ≡ s = omega arith in
+      let block : (8 * b + s) / 8 ≡ b = omega arith in
+      getD-filled 128 (8 * n) placed _ (8 * b + s) refl (omega arith) (omega arith) ∙ ap₂ (λ (i j : ℕ). sampleAt samples i j) block place
+
+  pub array-behind : (k : ℕ) → 8 * n ≤ k → getD (samplesArray n samples) k (pos 0) ≡ pos 0
+  unfolding samplesArray
+  array-behind k h = go (ltb k 128) refl
+    where
+      go : (t : Bool) → ltb k 128 ≡ t → getD (build 128 (upTo (8 * n) placed)) k (pos 0) ≡ pos 0
+      go true e = getD-build 128 (upTo (8 * n) placed) k (pos 0) (ltb-true k 128 e) ∙ rw (le-ltb k (8 * n) h)
+      go false e = getD-build-out 128 (upTo (8 * n) placed) k (pos 0) (ltb-false k 128 e)
+
+  -- an array that holds them and zeros behind them is that array
+  pub array-is : (xs : List ℤ) → length xs ≡ 128 → SamplesIn n samples xs → ((k : ℕ) → 8 * n ≤ k → getD xs k (pos 0) ≡ pos 0)
+      → xs ≡ samplesArray n samples
+  unfolding samplesArray
+  array-is xs long held zeros = sym (build-is 128 (upTo (8 * n) placed) xs (pos 0) long (λ k _. here k))
+    where
+      here : (k : ℕ) → upTo (8 * n) placed k ≡ getD xs k (pos 0)
+      here k =
+          let whole : 8 * (k / 8) + k % 8 ≡ k = omega arith in
+          by-test (λ z. z ≡ getD xs k (pos 0)) (ltb k (8 * n)) (placed k) (pos 0)
+          (λ e. sym (held (k / 8) (k % 8) (omega (arith, ltb-true k (8 * n) e)) (omega arith)) ∙ ap (λ (i : ℕ). getD xs i (pos 0)) whole)
+          (λ e. sym (zeros k (ltb-false k (8 * n) e)))

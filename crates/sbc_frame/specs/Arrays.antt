@@ -10,6 +10,7 @@ use lib.ListN.{getD}
 use lib.IntN.{ℤ, pos, natAbs}
 use Rattle.laws.specs.Choice.{if_then_else_}
 use Rattle.laws.specs.Lists.{build}
+use Rattle.laws.specs.Sums.{upTo}
 use Rattle.sbc_frame.specs.Encoding.{sampleAt}
 
 -- a row's entry
@@ -27,6 +28,10 @@ sampleIn xs b s = getD xs (8 * b + s) (pos 0)
 -- an array holds the samples of n blocks, and zeros behind a block's S samples
 abbrev pub SamplesIn : ℕ → List (List ℤ) → List ℤ → Type 0
 SamplesIn n samples xs = (b s : ℕ) → b < n → s < 8 → sampleIn xs b s ≡ sampleAt samples b s
+
+-- the array of the samples of n blocks, with zeros behind the blocks too
+unfoldable pub samplesArray : ℕ → List (List ℤ) → List ℤ
+samplesArray n samples = build 128 (upTo (8 * n) (λ k. sampleAt samples (k / 8) (k % 8)))
 
 -- no sample of the first n blocks has an absolute value above the bound
 abbrev pub Small : ℕ → ℕ → List ℤ → Type 0

@@ -2,14 +2,14 @@
 -- subband samples stand in their places.
 -- Assumes nothing.
 use Prim.Native.Nat.{ℕ, _+_, _*_, _-_, _≤_}
-use mathlib.Core.Path.{_≡_, refl, ap, _∙_, subst}
-use native.Mathlib.Nat.{not-suc-le-zero, mul-le-mul-right}
+use mathlib.Core.Path.{_≡_, ap, _∙_}
+use native.Mathlib.Nat.{mul-le-mul-right}
 use native.Mathlib.Omega.{arith}
 use lib.ListN.{length}
-use Rattle.laws.proofs.Arrays.{length-overwrite}
 use Rattle.sbc_frame.specs.Channels.{pcmIn, analyzeBlocks, analysisAfter}
-use Rattle.sbc_frame.specs.Arrays.{SamplesIn}
-use Rattle.sbc_analyze_frame.proofs.Analyzed.{analysis-none, analysis-next, samples-next}
+use Rattle.sbc_frame.specs.Arrays.{samplesArray}
+use Rattle.sbc_frame.proofs.Columns.{length-array}
+use Rattle.sbc_analyze_frame.proofs.Analyzed.{array-none, analysis-none, analysis-next, array-next}
 use Rattle.sbc_analyze_frame.proofs.analyze_channel.Statement.{statement}
 use Rattle.sbc_analyze_frame.proofs.analyze_channel.Tie as tie
 
@@ -18,14 +18,13 @@ Inv-loop history₀ input blocks subbands channel channels samples₀ block₀ h
     let pcm = pcmIn channels channel (blocks * subbands) input in
     (block ≤ blocks)
     × (history ≡ analysisAfter block subbands history₀ pcm)
-    × (length samples ≡ 128)
-    × SamplesIn block (analyzeBlocks block subbands history₀ pcm) samples
+    × (samples ≡ samplesArray block (analyzeBlocks block subbands history₀ pcm))
 
 abbrev μ-loop : tie.MeasureT-loop
 μ-loop history₀ input blocks subbands channel channels samples₀ block₀ history samples block = blocks - block
 
 loop-holds : tie.Need-loop-holds Inv-loop μ-loop
-loop-holds c = (omega arith, analysis-none _ _ _, refl, λ b s h _. absurd (not-suc-le-zero h))
+loop-holds c = (omega arith, analysis-none _ _ _, array-none _)
 
 analyze-block-requires : tie.Need-analyze-block-requires Inv-loop μ-loop
 analyze-block-requires c κs =
@@ -39,7 +38,7 @@ analyze-block-requires c κs =
     (pre .0, omega arith, pre .2, pre .3, omega (arith, room, pre .4))
 
 store-block-requires : tie.Need-store-block-requires Inv-loop μ-loop
-store-block-requires c κs = (c .before .before .before .before .before .loop .inv .2, omega arith)
+store-block-requires c κs = (ap length (c .before .before .before .before .before .loop .inv .2) ∙ length-array _ _, omega arith)
 
 add-block : tie.Need-add-block Inv-loop μ-loop
 add-block c = omega arith
@@ -58,9 +57,8 @@ loop-again c =
     let put = c .store-block .ensures in (
       omega arith,
       analysis-next (a .subbands) (a .channels) (a .channel) (a .blocks) (l .block) (a .history .now) (a .input .now) _ _ less (l .inv .1) (made .0),
-      ap length put ∙ length-overwrite _ _ _ _ ∙ l .inv .2,
-      samples-next (a .subbands) (a .channels) (a .channel) (a .blocks) (l .block) (a .history .now) (a .input .now) _ _ less (l .inv .1) (made .0)
-          _ _ _ (made .1) put (omega arith) (l .inv .3),
+      array-next (a .subbands) (a .channels) (a .channel) (a .blocks) (l .block) (a .history .now) (a .input .now) _ _ less (l .inv .1) (made .0)
+          _ _ _ (omega arith) (made .1) put (l .inv .2),
     )
 
 returns : tie.Need-returns Inv-loop μ-loop
@@ -70,7 +68,7 @@ returns c =
     let e : l .block ≡ a .blocks = omega arith in
     let pcm = pcmIn (a .channels) (a .channel) (a .blocks * a .subbands) (a .input .now) in (
       l .inv .1 ∙ ap (λ (n : ℕ). analysisAfter n (a .subbands) (a .history .now) pcm) e,
-      (l .inv .2, subst (λ (n : ℕ). SamplesIn n (analyzeBlocks n (a .subbands) (a .history .now) pcm) (l .samples)) e (l .inv .3)),
+      l .inv .2 ∙ ap (λ (n : ℕ). samplesArray n (analyzeBlocks n (a .subbands) (a .history .now) pcm)) e,
     )
 
 pub analyze-channel-spec : {M : Type 1} → statement M

@@ -1,11 +1,13 @@
 -- `sbc_encode_frame::encode_frame` meets its contract: what is coded of the samples (`CodingIn`) is written as the frame's bytes.
 -- Assumes nothing.
-use mathlib.Core.Path.{_∙_}
+use mathlib.Core.Path.{ap, _∙_}
 use mathlib.Core.List.{[], _∷_}
 use native.Mathlib.Omega.{arith}
+use lib.ListN.{length}
 use Rattle.sbc_parameters.specs.Parameters.{channels}
-use Rattle.sbc_parameters.proofs.Accepted.{channels-range}
+use Rattle.sbc_parameters.proofs.Accepted.{channels-range, ranges}
 use Rattle.sbc_frame.specs.Encoding.{channelSamples, encodeFields}
+use Rattle.sbc_frame.proofs.Columns.{length-array}
 use Rattle.sbc_frame.proofs.Blocks.{asked}
 use Rattle.sbc_encode_frame.proofs.Packed.{frame-packed, histories-analyzed, channels-analyzed}
 use borrow.Author.Needs.{needs}
@@ -40,7 +42,7 @@ analyze-second-requires c κs =
 
 code-requires : tie.Need-code-requires
 code-requires c κs =
-    (c .before .before .before .before .before .before .before .before .before .before .pre .0, c .before .before .before .before .analyze-channel .ensures .1 .0, c .before .before .analyze-second .ensures .1 .1)
+    (c .before .before .before .before .before .before .before .before .before .before .pre .0, ap length (c .before .before .before .before .analyze-channel .ensures .1) ∙ length-array _ _, c .before .before .analyze-second .ensures .1 .1)
 
 write-frame-requires : tie.Need-write-frame-requires
 write-frame-requires c κs =
@@ -64,8 +66,8 @@ returns c =
     let first = c .before .before .before .before .before .before .before .before .before .before .before .before .before .before .before .before .before .before .before .analyze-channel in
     let second = c .before .before .before .before .before .before .before .before .before .before .before .before .before .before .before .before .before .analyze-second in
     let coding = c .before .before .before .before .before .before .before .before .before .before .before .before .before .before .code in
-    let samples = channels-analyzed p C e l r input (first .result) (second .result) (first .ensures .1 .1) (λ t. second .ensures .1 .0 t .1) in (
-      histories-analyzed p C e l r input (first .last .0) (second .last .0) (first .ensures .0) (second .ensures .0) (λ t. second .ensures .1 .0 t .0),
+    let samples = channels-analyzed p C e l r input (ranges p (s .pre .0) .blocks-high) (first .result) (second .result) (first .ensures .1) (second .ensures .1 .0) in (
+      histories-analyzed p C e l r input (first .last .0) (second .last .0) (first .ensures .0) (second .ensures .0),
       c .before .before .write-frame .ensures
           ∙ frame-packed p (s .pre .0) (channelSamples p (l ∷ r ∷ []) input) _ _ _ _ _ (coding .ensures .1 (channelSamples p (l ∷ r ∷ []) input) samples)
           (coding .ensures .0 .0) (coding .ensures .0 .1),
