@@ -8,8 +8,8 @@ use mathlib.Core.List.{List, [], _∷_, _++_, append-assoc, append-nil}
 use native.Mathlib.Nat.{one-mul, zero-div}
 use native.Mathlib.Numerals.{add-one}
 use native.Mathlib.Omega.{arith}
-use lib.ListN.{length, take, set, replicate, length-append}
-use lib.Seq.{length-take-le, take-all, take-suc-set}
+use lib.ListN.{length, take, drop, set, replicate, length-append}
+use lib.Seq.{length-take-le, take-all, take-suc-set, drop-drop}
 use lib.Pow.{pow-add, split, high, shr-lt, shl-exact}
 use lib.Arith.{digits-lt}
 use Rattle.laws.specs.Lists.{collect}
@@ -33,6 +33,13 @@ byte-lt held bits h k =
 -- 1 shifted within 64 bits is a power
 pub unit : (n : ℕ) → n < 64 → (1 * 2 ^ n) % 2 ^ 64 ≡ 2 ^ n
 unit n h = shl-exact 1 n 64 (omega arith) (omega arith) ∙ one-mul (2 ^ n)
+
+-- ---- the bytes behind
+-- what is behind n stays, and then what is behind m, further on
+pub behind-more : (n m : ℕ) (xs ys zs : List ℕ) → n ≤ m → drop n ys ≡ drop n xs → drop m zs ≡ drop m ys → drop m zs ≡ drop m xs
+behind-more n m xs ys zs le h k =
+    let e : n + (m - n) ≡ m = omega arith in
+    k ∙ subst (λ (i : ℕ). drop i ys ≡ drop i xs) e (sym (drop-drop (m - n) n ys) ∙ ap (drop (m - n)) h ∙ drop-drop (m - n) n xs)
 
 -- ---- bits
 -- the low n bits of a remainder

@@ -3,7 +3,7 @@ use sbc_quantizer::quantize;
 ghost use mathlib.Core.Path.{_≡_};
 ghost use mathlib.Core.List.{_++_};
 ghost use Prim.Native.Nat.{ℕ, _+_, _*_, _^_, _≤_, _<_};
-ghost use lib.ListN.{length, getD};
+ghost use lib.ListN.{length, getD, drop};
 ghost use Rattle.laws.specs.Bits.{bitsOf};
 ghost use Rattle.laws.specs.Lists.{total};
 ghost use Rattle.sbc_frame.specs.Layout.{filled};
@@ -17,11 +17,11 @@ pub struct Writer {
     pub bits: u64,
 }
 
-// The low `count` bits of a value behind all that is written, flushed by bytes.
+// The low `count` bits of a value behind all that is written, flushed by bytes; no byte behind is touched.
 fn put(bytes: &mut [u8], writer: Writer, value: u32, count: u32) -> Writer
     requires { ⌜ (count ≤ 16) × (value < 2 ^ count) × (Ready (length (now bytes)) writer) × (8 * writer .at + writer .held + count ≤ 8 * length (now bytes)) ⌝ }
     ensures written { λ r. ⌜ bitsIn (now (bytes .exit)) r ≡ bitsIn (now (bytes .entry)) writer ++ bitsOf count value ⌝ }
-    ensures ready { λ r. ⌜ (Ready (length (now (bytes .exit))) r) × (8 * r .at + r .held ≡ 8 * writer .at + writer .held + count) ⌝ }
+    ensures ready { λ r. ⌜ (Ready (length (now (bytes .exit))) r) × (8 * r .at + r .held ≡ 8 * writer .at + writer .held + count) × (drop (r .at) (now (bytes .exit)) ≡ drop (r .at) (now (bytes .entry))) ⌝ }
 {
     let mut at = writer.at;
     let mut held = writer.held + count;
@@ -49,7 +49,7 @@ pub fn finish(bytes: &mut [u8], writer: Writer)
 pub fn put_row(bytes: &mut [u8], writer: Writer, row: &[u8; 8], width: u32, count: usize) -> Writer
     requires { ⌜ (width ≤ 8) × (count ≤ 8) × ((s : ℕ) → entry (now row) s < 2 ^ width) × (Ready (length (now bytes)) writer) × (8 * writer .at + writer .held + count * width ≤ 8 * length (now bytes)) ⌝ }
     ensures written { λ r. ⌜ bitsIn (now (bytes .exit)) r ≡ bitsIn (now (bytes .entry)) writer ++ rowBits (now (row .entry)) width count ⌝ }
-    ensures ready { λ r. ⌜ (Ready (length (now (bytes .exit))) r) × (8 * r .at + r .held ≡ 8 * writer .at + writer .held + count * width) ⌝ }
+    ensures ready { λ r. ⌜ (Ready (length (now (bytes .exit))) r) × (8 * r .at + r .held ≡ 8 * writer .at + writer .held + count * width) × (drop (r .at) (now (bytes .exit)) ≡ drop (r .at) (now (bytes .entry))) ⌝ }
 {
     let mut next = writer;
     for s in 0..count {
@@ -69,7 +69,7 @@ fn put_block(
 ) -> Writer
     requires { ⌜ (block < 16) × ((s : ℕ) → entry (now widths) s ≤ 16) × ((s : ℕ) → entry (now factors) s ≤ 15) × (Ready (length (now bytes)) writer) × (8 * writer .at + writer .held + total 8 (entry (now widths)) ≤ 8 * length (now bytes)) ⌝ }
     ensures written { λ r. ⌜ bitsIn (now (bytes .exit)) r ≡ bitsIn (now (bytes .entry)) writer ++ blockBitsOf (now (samples .entry)) (now (widths .entry)) (now (factors .entry)) block ⌝ }
-    ensures ready { λ r. ⌜ (Ready (length (now (bytes .exit))) r) × (8 * r .at + r .held ≡ 8 * writer .at + writer .held + total 8 (entry (now (widths .entry)))) ⌝ }
+    ensures ready { λ r. ⌜ (Ready (length (now (bytes .exit))) r) × (8 * r .at + r .held ≡ 8 * writer .at + writer .held + total 8 (entry (now (widths .entry)))) × (drop (r .at) (now (bytes .exit)) ≡ drop (r .at) (now (bytes .entry))) ⌝ }
 {
     let mut next = writer;
     for s in 0..8 {
@@ -96,7 +96,7 @@ pub fn put_values(
 ) -> Writer
     requires { ⌜ (blocks ≤ 16) × ((s : ℕ) → entry (now «left_widths») s ≤ 16) × ((s : ℕ) → entry (now «right_widths») s ≤ 16) × ((s : ℕ) → entry (now «left_factors») s ≤ 15) × ((s : ℕ) → entry (now «right_factors») s ≤ 15) × (Ready (length (now bytes)) writer) × (8 * writer .at + writer .held + blocks * (total 8 (entry (now «left_widths»)) + total 8 (entry (now «right_widths»))) ≤ 8 * length (now bytes)) ⌝ }
     ensures written { λ r. ⌜ bitsIn (now (bytes .exit)) r ≡ bitsIn (now (bytes .entry)) writer ++ valueBitsOf (now (left .entry)) (now (right .entry)) (now («left_widths» .entry)) (now («right_widths» .entry)) (now («left_factors» .entry)) (now («right_factors» .entry)) blocks ⌝ }
-    ensures ready { λ r. ⌜ (Ready (length (now (bytes .exit))) r) × (8 * r .at + r .held ≡ 8 * writer .at + writer .held + blocks * (total 8 (entry (now («left_widths» .entry))) + total 8 (entry (now («right_widths» .entry))))) ⌝ }
+    ensures ready { λ r. ⌜ (Ready (length (now (bytes .exit))) r) × (8 * r .at + r .held ≡ 8 * writer .at + writer .held + blocks * (total 8 (entry (now («left_widths» .entry))) + total 8 (entry (now («right_widths» .entry))))) × (drop (r .at) (now (bytes .exit)) ≡ drop (r .at) (now (bytes .entry))) ⌝ }
 {
     let mut next = writer;
     for block in 0..blocks {

@@ -1,18 +1,18 @@
--- `sbc_write::put_row` meets its contract. The loop's invariant: the numbers passed are written.
+-- `sbc_write::put_row` meets its contract. The loop's invariant: the numbers passed are written, and the bytes behind are as they were.
 -- Assumes nothing.
 use Prim.Native.Nat.{ℕ, _+_, _-_, _*_, _≤_}
 use mathlib.Core.Path.{_≡_, refl, sym, _∙_, subst}
 use mathlib.Core.List.{_++_, append-nil}
 use native.Mathlib.Nat.{zero-mul, add-mul}
 use native.Mathlib.Omega.{arith}
-use lib.ListN.{length}
+use lib.ListN.{length, drop}
 use lib.Pow.{pow-mono}
 use Rattle.laws.specs.Lists.{collect}
 use Rattle.laws.specs.Bits.{bitsOf}
 use Rattle.sbc_frame.specs.Arrays.{entry}
 use Rattle.sbc_write.specs.Writing.{bitsIn, Ready, rowBits}
 use Rattle.sbc_frame.proofs.Positions.{times-below}
-use Rattle.sbc_write.proofs.Flushing.{one-more}
+use Rattle.sbc_write.proofs.Flushing.{behind-more, one-more}
 use Rattle.sbc_write.proofs.put_row.Statement.{statement}
 use Rattle.sbc_write.proofs.put_row.Tie as tie
 
@@ -21,6 +21,7 @@ Inv-loop bytes₀ row width count next₀ s₀ bytes next s =
     (s ≤ count) × (length bytes ≡ length bytes₀) × Ready (length bytes) next
     × (8 * next .at + next .held ≡ 8 * next₀ .at + next₀ .held + s * width)
     × (bitsIn bytes next ≡ bitsIn bytes₀ next₀ ++ rowBits row width s)
+    × (drop (next .at) bytes ≡ drop (next .at) bytes₀)
 
 abbrev μ-loop : tie.MeasureT-loop
 μ-loop bytes₀ row width count next₀ s₀ bytes next s = count - s
@@ -35,6 +36,7 @@ loop-holds c =
       start .pre .3,
       omega (arith, zero-mul (a .width)),
       sym (append-nil (bitsIn (a .bytes .now) (a .writer))),
+      refl,
     )
 
 element-copy-out-put : tie.Need-element-copy-out-put Inv-loop μ-loop
@@ -74,6 +76,7 @@ loop-again c =
       omega (arith, called .put .ensures .1 .1, l .inv .3, add-mul (l .s) 1 (a .width)),
       one-more (l .s) (λ s. bitsOf (a .width) (entry (a .row .now) s)) (bitsIn (a .bytes .now) (a .writer)) (bitsIn (l .bytes) (l .next))
           (l .inv .4) _ (called .put .ensures .0),
+      behind-more (l .next .at) (called .put .result .at) (a .bytes .now) (l .bytes) _ (omega (arith, called .put .ensures .1 .0, called .put .ensures .1 .1, l .inv .2)) (l .inv .5) (called .put .ensures .1 .2),
     )
 
 same-length : tie.Need-same-length Inv-loop μ-loop
@@ -85,7 +88,7 @@ returns c =
     let a = c .before .before .before .args in
     let e : l .s ≡ a .count = omega arith in (
       subst (λ (n : ℕ). bitsIn (l .bytes) (l .next) ≡ bitsIn (a .bytes .now) (a .writer) ++ rowBits (a .row .now) (a .width) n) e (l .inv .4),
-      (l .inv .2, subst (λ (n : ℕ). 8 * l .next .at + l .next .held ≡ 8 * a .writer .at + a .writer .held + n * a .width) e (l .inv .3)),
+      (l .inv .2, subst (λ (n : ℕ). 8 * l .next .at + l .next .held ≡ 8 * a .writer .at + a .writer .held + n * a .width) e (l .inv .3), l .inv .5),
     )
 
 pub put-row-spec : {M : Type 1} → statement M
