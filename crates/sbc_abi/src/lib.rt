@@ -13,9 +13,9 @@
 mod decoder;
 mod encoder;
 
+use sbc_modes::SbcAllocation;
+use sbc_modes::SbcChannelMode;
 use sbc_parameters::Parsed;
-use sbc_parameters::SbcAllocation;
-use sbc_parameters::SbcChannelMode;
 use sbc_parameters::SbcParameters;
 use sbc_parameters::Validated;
 ghost use mathlib.Core.Path.{_≡_};
