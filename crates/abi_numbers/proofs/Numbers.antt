@@ -8,11 +8,11 @@ use lib.Dec.{ltb}
 use lib.ListN.{getD}
 use borrow.Author.Tests.{lt-ltb, ltb-true}
 use Rattle.laws.proofs.Tests.{and-left, and-right}
-use Rattle.sbc_parameters.specs.Parameters.{channelModes, allocations, modeNumber, allocationNumber}
-use Rattle.sbc_parameters.specs.declared.SbcChannelMode.the-variants.{JointStereo}
-use Rattle.sbc_parameters.specs.declared.SbcAllocation.the-variants.{Snr}
+use Rattle.sbc_modes.specs.Modes.{channelModes, allocations, modeNumber, allocationNumber}
+use Rattle.sbc_modes.specs.declared.SbcChannelMode.the-variants.{JointStereo}
+use Rattle.sbc_modes.specs.declared.SbcAllocation.the-variants.{Snr}
 use Rattle.sbc_parameters.specs.declared.SbcParameters.{SbcParameters}
-use Rattle.sbc_parameters.proofs.Numbers.{mode-lt, mode-back, allocation-lt, allocation-back}
+use Rattle.sbc_modes.proofs.Numbers.{mode-lt, mode-back, allocation-lt, allocation-back}
 use Rattle.abi_numbers.specs.Numbers.{isSet, parametersIn, numbersOf}
 use Rattle.abi_numbers.specs.declared.ParameterNumbers.{ParameterNumbers}
 

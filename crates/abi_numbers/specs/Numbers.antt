@@ -5,9 +5,10 @@ use lib.Dec.{ltb}
 use lib.ListN.{getD}
 use Rattle.laws.specs.Choice.{if_then_else_}
 use Rattle.laws.specs.Answers.{Told, gives, refuses}
-use Rattle.sbc_parameters.specs.Parameters.{channelModes, allocations, modeNumber, allocationNumber, accepted}
-use Rattle.sbc_parameters.specs.declared.SbcChannelMode.the-variants.{JointStereo}
-use Rattle.sbc_parameters.specs.declared.SbcAllocation.the-variants.{Snr}
+use Rattle.sbc_modes.specs.Modes.{channelModes, allocations, modeNumber, allocationNumber}
+use Rattle.sbc_parameters.specs.Parameters.{accepted}
+use Rattle.sbc_modes.specs.declared.SbcChannelMode.the-variants.{JointStereo}
+use Rattle.sbc_modes.specs.declared.SbcAllocation.the-variants.{Snr}
 use Rattle.sbc_parameters.specs.declared.SbcParameters.{SbcParameters}
 use Rattle.codec.specs.declared.Progress.{Progress}
 use Rattle.abi_numbers.specs.declared.ParameterNumbers.{ParameterNumbers}

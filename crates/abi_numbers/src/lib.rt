@@ -1,9 +1,9 @@
 // The numbers that cross to C, and what they stand for: parameters, and what a call gives back. No enum may cross, so the mode, the allocation and
 // a refusal are numbers here; numbers that stand for nothing are not accepted.
 use codec::Coded;
+use sbc_modes::SbcAllocation;
+use sbc_modes::SbcChannelMode;
 use sbc_parameters::Parsed;
-use sbc_parameters::SbcAllocation;
-use sbc_parameters::SbcChannelMode;
 use sbc_parameters::SbcParameters;
 use sbc_parameters::Validated;
 ghost use mathlib.Core.Path.{_≡_};

@@ -4,7 +4,7 @@ use mathlib.Core.Bool.{Bool, _&&_}
 use lib.Dec.{eqb}
 use Rattle.laws.specs.Choice.{if_then_else_}
 use Rattle.laws.specs.Answers.{Told, gives, refuses}
-use Rattle.sbc_parameters.specs.Errors.{errorNumber}
+use Rattle.codec.specs.Errors.{errorNumber}
 use Rattle.codec.specs.declared.Progress.{Progress}
 use Rattle.codec.specs.declared.Coded.{Coded}
 use Rattle.codec.specs.declared.Coded.the-variants.{Done, Refused}

@@ -1,8 +1,31 @@
 // What a codec's call gives back: how much it consumed and produced, or a refusal.
-use sbc_parameters::Error;
 ghost use mathlib.Core.Path.{_≡_};
-ghost use Rattle.sbc_parameters.specs.Errors.{errorNumber};
+ghost use Rattle.codec.specs.Errors.{errorNumber};
 ghost use Rattle.codec.specs.Answers.{toldCoded, progressOf, isStalled, refusedAfter};
+
+// Why a call was refused.
+pub enum Error {
+    Incomplete,
+    InvalidHeader,
+    InvalidParameter,
+    InvalidData,
+    BufferTooSmall,
+}
+
+impl Error {
+    // The refusal's number in document 01.
+    pub fn number(self) -> u8
+        ensures { λ r. ⌜ r ≡ errorNumber self ⌝ }
+    {
+        match self {
+            Error::Incomplete => 1,
+            Error::InvalidHeader => 2,
+            Error::InvalidParameter => 3,
+            Error::InvalidData => 4,
+            Error::BufferTooSmall => 5,
+        }
+    }
+}
 
 // How much a call consumed and produced: bytes and samples for a decoder, samples and bytes for an encoder.
 pub struct Progress {

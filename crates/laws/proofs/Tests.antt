@@ -11,7 +11,7 @@ use lib.ListN.{length, getD, drop, drop-of-length-le}
 use lib.Seq.{drop-cons}
 use borrow.Author.Tests.{eqb-true, eq-eqb, ne-eqb, ltb-true}
 use Rattle.laws.specs.Choice.{if_then_else_}
-use Rattle.laws.specs.Lists.{allOf, indexOf, listed}
+use Rattle.laws.specs.Lists.{allOf, indexOf, listed, placeIn}
 
 -- ---- conjunctions
 pub and-left : (a b : Bool) → (a && b) ≡ true → a ≡ true
@@ -87,3 +87,16 @@ listed-back x ys e = back x ys (listed-lt x ys e)
 -- what holds of each number of a list holds of a number that is listed
 pub listed-cases : (P : ℕ → Type 0) (x : ℕ) (ys : List ℕ) → listed x ys ≡ true → ((i : ℕ) → i < length ys → P (getD ys i 0)) → P x
 listed-cases P x ys e h = rw (listed-back x ys e) at (h (indexOf x ys) (listed-lt x ys e))
+
+-- the index of a value is one of its list, and what stands there is the value, where it is listed
+pub place-lt : (x : ℕ) (xs : List ℕ) → 0 < length xs → placeIn x xs < length xs
+unfolding placeIn
+place-lt x xs h = go (listed x xs) refl
+  where
+    go : (t : Bool) → listed x xs ≡ t → (if t then indexOf x xs else 0) < length xs
+    go true e = listed-lt x xs e
+    go false e = h
+
+pub place-back : (x : ℕ) (xs : List ℕ) → listed x xs ≡ true → getD xs (placeIn x xs) 0 ≡ x
+unfolding placeIn
+place-back x xs h = rw h (listed-back x xs h)

@@ -39,3 +39,7 @@ indexOf x (y ∷ ys) = if eqb x y then 0 else suc (indexOf x ys)
 -- x stands in the list
 unfoldable pub listed : ℕ → List ℕ → Bool
 listed x ys = ltb (indexOf x ys) (length ys)
+
+-- the index of a value in its list; a value that is not listed counts as index 0
+unfoldable pub placeIn : ℕ → List ℕ → ℕ
+placeIn x xs = if listed x xs then indexOf x xs else 0

@@ -1,9 +1,10 @@
-// Laws on integers, sums, lists and bit fields, in specs/ and proofs/, and small functions on integers. Nothing here knows of audio.
+// Laws on integers, sums, lists and bit fields, in specs/ and proofs/, and small functions on integers and lists. Nothing here knows of audio.
 ghost use mathlib.Core.Path.{_≡_};
 ghost use Prim.Native.Nat.{_^_, _<_, _≤_, min, max};
 ghost use lib.IntN.{_+ℤ_, _*ℤ_};
 ghost use mir.Syntax.{w16, w32, w64};
 ghost use mir.Val.{SFits};
+ghost use Rattle.laws.specs.Lists.{indexOf, listed, placeIn};
 ghost use Rattle.laws.specs.Integers.{floorDiv, clampZ};
 
 // 2 to the exponent.
@@ -85,4 +86,36 @@ pub fn clamp_i16(x: i64) -> i16
         return -32768;
     }
     x as i16
+}
+
+// The place of a value in a list, or the list's length where it is not in it.
+pub fn index_of(value: u32, values: &[u32]) -> usize
+    ensures { λ r. ⌜ r ≡ indexOf value (now (values .entry)) ⌝ }
+{
+    let mut i = 0;
+    while i < values.len() {
+        if value == values[i] {
+            return i;
+        }
+        i += 1;
+    }
+    i
+}
+
+// Whether a value is in a list.
+pub fn is_listed(value: u32, values: &[u32]) -> bool
+    ensures { λ r. ⌜ r ≡ listed value (now (values .entry)) ⌝ }
+{
+    index_of(value, values) < values.len()
+}
+
+// The place of a value in a list, or 0 where it is not in it.
+pub fn place_in(value: u32, values: &[u32]) -> usize
+    ensures { λ r. ⌜ r ≡ placeIn value (now (values .entry)) ⌝ }
+{
+    let place = index_of(value, values);
+    if place < values.len() {
+        return place;
+    }
+    0
 }

@@ -7,7 +7,7 @@ use mathlib.Core.List.{List, _++_}
 use lib.IntN.{ℤ}
 use lib.ListN.{length, take, drop}
 use Rattle.sbc_parameters.specs.declared.SbcParameters.{SbcParameters}
-use Rattle.sbc_parameters.specs.declared.SbcChannelMode.the-variants.{DualChannel}
+use Rattle.sbc_modes.specs.declared.SbcChannelMode.the-variants.{DualChannel}
 use Rattle.sbc_parameters.specs.Parameters.{accepted}
 use Rattle.sbc_parameters.specs.Sizes.{frameLength, frameSamples}
 use Rattle.sbc_frame.specs.Fields.{Fields}

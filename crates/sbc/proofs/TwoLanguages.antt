@@ -7,7 +7,7 @@ use mathlib.Core.List.{List, [], _∷_}
 use Rattle.laws.specs.Choice.{if_then_else_}
 use Rattle.laws.specs.Answers.{gives, refuses}
 use Rattle.sbc_parameters.specs.declared.SbcParameters.{SbcParameters}
-use Rattle.sbc_parameters.specs.declared.SbcChannelMode.the-variants.{DualChannel}
+use Rattle.sbc_modes.specs.declared.SbcChannelMode.the-variants.{DualChannel}
 use Rattle.sbc_parameters.specs.Parameters.{accepted}
 use Rattle.sbc_encoder.specs.Encode.{encoderOf, newEncoder, packAll}
 use Rattle.sbc_decoder.specs.Decode.{newDecoder}

@@ -10,7 +10,7 @@ use Rattle.laws.specs.Answers.{Told, gives}
 use Rattle.sbc_parameters.specs.Parameters.{accepted}
 use Rattle.sbc_parameters.specs.Sizes.{frameLength, frameSamples}
 use Rattle.sbc_parameters.specs.declared.SbcParameters.{SbcParameters}
-use Rattle.sbc_parameters.specs.declared.SbcChannelMode.the-variants.{DualChannel}
+use Rattle.sbc_modes.specs.declared.SbcChannelMode.the-variants.{DualChannel}
 use Rattle.codec.specs.Answers.{progressOf, wholeFrames}
 use Rattle.sbc_encoder.specs.Encode.{newEncoder, Encoded, encode}
 use Rattle.sbc_decoder.specs.Decode.{newDecoder, finish, Decoded, decode}

@@ -13,8 +13,8 @@ use lib.IntN.{ℤ, pos}
 use lib.Signed.{_<ℤ_}
 use Rattle.laws.specs.Lists.{collect, build}
 use Rattle.laws.proofs.Lists.{getD-build, build-is}
-use Rattle.sbc_parameters.specs.declared.SbcChannelMode.{SbcChannelMode}
-use Rattle.sbc_parameters.specs.declared.SbcChannelMode.the-variants.{Mono, DualChannel, Stereo, JointStereo}
+use Rattle.sbc_modes.specs.declared.SbcChannelMode.{SbcChannelMode}
+use Rattle.sbc_modes.specs.declared.SbcChannelMode.the-variants.{Mono, DualChannel, Stereo, JointStereo}
 use Rattle.sbc_parameters.specs.declared.SbcParameters.{SbcParameters}
 use Rattle.sbc_parameters.specs.Parameters.{channels, maximumBitpool, accepted}
 use Rattle.sbc_parameters.proofs.Accepted.{ranges}

@@ -9,10 +9,11 @@ use lib.ListN.{length, getD, take, replicate, length-append, length-take}
 use lib.Seq.{getD-take}
 use lib.IntN.{ℤ}
 use Rattle.laws.proofs.Lists.{length-build}
-use Rattle.sbc_parameters.specs.declared.SbcChannelMode.{SbcChannelMode}
-use Rattle.sbc_parameters.specs.declared.SbcChannelMode.the-variants.{Mono, DualChannel, Stereo, JointStereo}
+use Rattle.sbc_modes.specs.declared.SbcChannelMode.{SbcChannelMode}
+use Rattle.sbc_modes.specs.declared.SbcChannelMode.the-variants.{Mono, DualChannel, Stereo, JointStereo}
 use Rattle.sbc_parameters.specs.declared.SbcParameters.{SbcParameters}
-use Rattle.sbc_parameters.specs.Parameters.{channelsOf, channels}
+use Rattle.sbc_modes.specs.Modes.{channelsOf}
+use Rattle.sbc_parameters.specs.Parameters.{channels}
 use Rattle.sbc_need.specs.Need.{need}
 use Rattle.sbc_share.specs.Share.{share}
 use Rattle.sbc_allocation.specs.Allocate.{channelNeeds, leftFirst, channelRow, rowsTogether, allocateBy, allocate, tableRow, allocationTable}

@@ -4,8 +4,8 @@ use Prim.Native.Nat.{ℕ, min}
 use lib.ListN.{getD, take, replicate, length}
 use lib.IntN.{ℤ}
 use Rattle.laws.specs.Lists.{build}
-use Rattle.sbc_parameters.specs.declared.SbcChannelMode.{SbcChannelMode}
-use Rattle.sbc_parameters.specs.declared.SbcChannelMode.the-variants.{Mono, DualChannel, Stereo, JointStereo}
+use Rattle.sbc_modes.specs.declared.SbcChannelMode.{SbcChannelMode}
+use Rattle.sbc_modes.specs.declared.SbcChannelMode.the-variants.{Mono, DualChannel, Stereo, JointStereo}
 use Rattle.sbc_parameters.specs.declared.SbcParameters.{SbcParameters}
 use Rattle.sbc_need.specs.Need.{need}
 use Rattle.sbc_share.specs.Share.{share}

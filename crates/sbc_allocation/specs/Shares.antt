@@ -8,8 +8,8 @@ use lib.ListN.{length, getD}
 use lib.IntN.{ℤ}
 use lib.Signed.{_<ℤ_}
 use Rattle.laws.specs.Lists.{build}
-use Rattle.sbc_parameters.specs.declared.SbcChannelMode.{SbcChannelMode}
-use Rattle.sbc_parameters.specs.declared.SbcChannelMode.the-variants.{Mono, DualChannel, Stereo, JointStereo}
+use Rattle.sbc_modes.specs.declared.SbcChannelMode.{SbcChannelMode}
+use Rattle.sbc_modes.specs.declared.SbcChannelMode.the-variants.{Mono, DualChannel, Stereo, JointStereo}
 use Rattle.sbc_parameters.specs.declared.SbcParameters.{SbcParameters}
 use Rattle.sbc_parameters.specs.Parameters.{channels, accepted}
 use Rattle.sbc_need.specs.Need.{need}

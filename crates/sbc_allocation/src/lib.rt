@@ -1,7 +1,7 @@
 // The bit allocation of SBC: the needs of each channel's subbands, and the bitpool shared among those of a group.
 use laws::wide;
+use sbc_modes::SbcChannelMode;
 use sbc_need::need_at;
-use sbc_parameters::SbcChannelMode;
 use sbc_parameters::SbcParameters;
 use sbc_share::share_bits;
 ghost use mathlib.Core.Path.{_≡_};
@@ -9,7 +9,7 @@ ghost use mathlib.Core.Bool.{not};
 ghost use mathlib.Core.List.{[], _∷_, map};
 ghost use Prim.Native.Nat.{ℕ, _+_, _*_, _/_, _%_, _≤_, _<_, min};
 ghost use lib.ListN.{getD, take};
-ghost use Rattle.sbc_parameters.specs.Parameters.{separate};
+ghost use Rattle.sbc_modes.specs.Modes.{separate};
 ghost use Rattle.sbc_parameters.specs.Header.{frequencyIndex};
 ghost use Rattle.sbc_need.specs.Need.{need};
 ghost use Rattle.sbc_share.specs.Share.{share};

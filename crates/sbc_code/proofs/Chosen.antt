@@ -16,7 +16,8 @@ use Rattle.laws.specs.Bits.{digit}
 use Rattle.laws.proofs.Cases.{by-test}
 use Rattle.laws.proofs.Lists.{length-build, getD-build, build-all}
 use Rattle.sbc_parameters.specs.declared.SbcParameters.{SbcParameters}
-use Rattle.sbc_parameters.specs.Parameters.{channels, isJoint, accepted}
+use Rattle.sbc_modes.specs.Modes.{isJoint}
+use Rattle.sbc_parameters.specs.Parameters.{channels, accepted}
 use Rattle.sbc_parameters.specs.Sizes.{joinCount}
 use Rattle.sbc_parameters.proofs.Accepted.{channels-range, ranges}
 use Rattle.sbc_quantizer.specs.Quantizing.{scaleFactor}

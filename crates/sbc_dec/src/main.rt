@@ -3,10 +3,10 @@
 // A refusal ends the program, after the samples that were decoded before it, with its number on standard error; a last frame that is cut
 // is number 1.
 use codec::Coded;
+use codec::Error;
 use codec::Progress;
 use libc::STDOUT_FILENO;
 use sbc_decoder::SbcDecoder;
-use sbc_parameters::Error;
 ghost use mathlib.Core.Path.{_≡_};
 ghost use Prim.Native.Nat.{_*_};
 ghost use lib.ListN.{length};

@@ -1,7 +1,7 @@
 -- What the code of the calls and of their parts gives back, in the definitions' terms, with document 01's numbers ("Given back").
 use mathlib.Core.List.{List}
 use lib.IntN.{ℤ}
-use Rattle.sbc_parameters.specs.Errors.{errorNumber}
+use Rattle.codec.specs.Errors.{errorNumber}
 use Rattle.codec.specs.Answers.{toldCoded}
 use Rattle.sbc_decoder.specs.Decode.{Step, none-whole, refused, taken, Turn, Decoded}
 use Rattle.sbc_decoder.specs.declared.Outcome.{Outcome}

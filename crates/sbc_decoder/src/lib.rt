@@ -3,6 +3,7 @@
 mod lent;
 
 use codec::Coded;
+use codec::Error;
 use codec::Progress;
 use codec::refusal_or_progress;
 use laws::least;
@@ -11,7 +12,6 @@ use sbc_decode_frame::leave_out;
 use sbc_filterbank::Synthesis;
 use sbc_look::Next;
 use sbc_look::decide;
-use sbc_parameters::Error;
 use sbc_parameters::SbcParameters;
 use sbc_seek::LastParameters;
 use sbc_seek::SeekOutcome;
@@ -23,7 +23,7 @@ ghost use Prim.Native.Nat.{_-_, _*_, _≤_};
 ghost use lib.Dec.{eqb};
 ghost use lib.IntN.{ℤ};
 ghost use lib.ListN.{length};
-ghost use Rattle.sbc_parameters.specs.Errors.{errorNumber};
+ghost use Rattle.codec.specs.Errors.{errorNumber};
 ghost use Rattle.sbc_parameters.specs.Parameters.{accepted};
 ghost use Rattle.sbc_parameters.specs.Sizes.{frameLength, frameSamples};
 ghost use Rattle.sbc_frame.specs.Layout.{unpack};

@@ -6,11 +6,11 @@
 mod settings;
 
 use codec::Coded;
+use codec::Error;
 use codec::Progress;
 use libc::STDOUT_FILENO;
 use sbc_encoder::EncodeResult;
 use sbc_encoder::SbcEncoder;
-use sbc_parameters::Error;
 use sbc_parameters::Parsed;
 use sbc_parameters::SbcParameters;
 use sbc_parameters::Validated;

@@ -1,10 +1,10 @@
 // The encoder's parameters, from the program's arguments.
 ghost use Prim.Native.Nat.{_≤_};
 use check::same;
-use sbc_parameters::Error;
+use codec::Error;
+use sbc_modes::SbcAllocation;
+use sbc_modes::SbcChannelMode;
 use sbc_parameters::Parsed;
-use sbc_parameters::SbcAllocation;
-use sbc_parameters::SbcChannelMode;
 use sbc_parameters::SbcParameters;
 
 // A digit's number, or 10 for another byte.

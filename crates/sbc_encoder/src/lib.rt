@@ -3,10 +3,10 @@
 mod lent;
 
 use codec::Coded;
+use codec::Error;
 use codec::Progress;
 use laws::least;
 use sbc_encode_frame::encode_frame;
-use sbc_parameters::Error;
 use sbc_parameters::SbcParameters;
 use sbc_parameters::Validated;
 ghost use mathlib.Core.Path.{_≡_};

@@ -9,7 +9,8 @@ use Rattle.laws.specs.Answers.{Told, gives, refuses}
 use Rattle.laws.specs.Lists.{collect, build, allOf, indexOf, listed}
 use Rattle.laws.specs.Bits.{odd, bitsOf}
 use Rattle.crc8.specs.Checksum.{crcStep, crcBits}
-use Rattle.sbc_parameters.specs.Parameters.{highQuality, msbc, sampleRates, blockCounts, channelModes, allocations, subbandCounts, modeNumber, allocationNumber, maximumBitpool, isMsbc, msbcTests, fieldTests, accepted, validate}
+use Rattle.sbc_modes.specs.Modes.{channelModes, allocations, modeNumber, allocationNumber}
+use Rattle.sbc_parameters.specs.Parameters.{highQuality, msbc, sampleRates, blockCounts, subbandCounts, maximumBitpool, isMsbc, msbcTests, fieldTests, accepted, validate}
 use Rattle.sbc_parameters.specs.Sizes.{joinCount, blockBits, audioBits, frameLength, samplesPerChannel, frameSamples}
 use Rattle.sbc_parameters.specs.Header.{fromSettings, parse}
 use Rattle.sbc_need.specs.Need.{need}
@@ -22,8 +23,8 @@ use Rattle.sbc_seek.specs.declared.SeekRequest.{SeekRequest}
 use Rattle.sbc_seek.specs.declared.LastParameters.the-variants.{Some}
 use Rattle.sbc_decoder.specs.Seek.{seekAnswered, seek}
 use Rattle.sbc_parameters.specs.declared.SbcParameters.{SbcParameters}
-use Rattle.sbc_parameters.specs.declared.SbcChannelMode.the-variants.{Mono, DualChannel}
-use Rattle.sbc_parameters.specs.declared.SbcAllocation.the-variants.{Loudness, Snr}
+use Rattle.sbc_modes.specs.declared.SbcChannelMode.the-variants.{Mono, DualChannel}
+use Rattle.sbc_modes.specs.declared.SbcAllocation.the-variants.{Loudness, Snr}
 
 pub record Figure : Type 0 where
   pub given : List ℤ

@@ -1,7 +1,7 @@
 // What the program writes: words, numbers with a space before each, and verdicts.
 use codec::Coded;
+use codec::Error;
 use libc::STDOUT_FILENO;
-use sbc_parameters::Error;
 
 pub fn text(bytes: &[u8]) {
     io::write_all(STDOUT_FILENO, bytes);

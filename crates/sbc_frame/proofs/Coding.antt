@@ -12,9 +12,10 @@ use lib.ListN.{length, getD}
 use borrow.Author.Tests.{lt-ltb, ltb-true, ltb-false}
 use Rattle.laws.specs.Lists.{build, greatest}
 use Rattle.laws.proofs.Lists.{length-build, getD-build, getD-build-out, build-ext, build-all}
-use Rattle.sbc_parameters.specs.declared.SbcChannelMode.the-variants.{DualChannel}
+use Rattle.sbc_modes.specs.declared.SbcChannelMode.the-variants.{DualChannel}
 use Rattle.sbc_parameters.specs.declared.SbcParameters.{SbcParameters}
-use Rattle.sbc_parameters.specs.Parameters.{channels, channelsOf, isJoint}
+use Rattle.sbc_modes.specs.Modes.{channelsOf, isJoint}
+use Rattle.sbc_parameters.specs.Parameters.{channels}
 use Rattle.sbc_parameters.specs.Sizes.{joinCount, samplesPerChannel, frameSamples}
 use Rattle.sbc_allocation.proofs.Rows.{dual-row}
 use Rattle.sbc_quantizer.specs.Quantizing.{quantize}

@@ -6,10 +6,11 @@ use mathlib.Core.Bool.{true}
 use native.Mathlib.Omega.{arith}
 use Rattle.laws.specs.Choice.{if_then_else_}
 use Rattle.laws.proofs.Cases.{by-test}
-use Rattle.sbc_parameters.specs.declared.SbcChannelMode.{SbcChannelMode}
-use Rattle.sbc_parameters.specs.declared.SbcChannelMode.the-variants.{Mono, DualChannel, Stereo, JointStereo}
+use Rattle.sbc_modes.specs.declared.SbcChannelMode.{SbcChannelMode}
+use Rattle.sbc_modes.specs.declared.SbcChannelMode.the-variants.{Mono, DualChannel, Stereo, JointStereo}
 use Rattle.sbc_parameters.specs.declared.SbcParameters.{SbcParameters}
-use Rattle.sbc_parameters.specs.Parameters.{channelsOf, channels, isJoint, accepted}
+use Rattle.sbc_modes.specs.Modes.{channelsOf, isJoint}
+use Rattle.sbc_parameters.specs.Parameters.{channels, accepted}
 use Rattle.sbc_parameters.specs.Sizes.{joinCount}
 use Rattle.sbc_parameters.proofs.Accepted.{channels-range, ranges}
 

@@ -13,10 +13,11 @@ use lib.IntN.{ℤ}
 use borrow.Author.Tests.{ltb-true, ltb-false}
 use Rattle.laws.specs.Lists.{collect, build, total}
 use Rattle.laws.proofs.Lists.{total-const, total-ext, build-ext}
-use Rattle.sbc_parameters.specs.declared.SbcChannelMode.{SbcChannelMode}
-use Rattle.sbc_parameters.specs.declared.SbcChannelMode.the-variants.{Mono, DualChannel, Stereo, JointStereo}
+use Rattle.sbc_modes.specs.declared.SbcChannelMode.{SbcChannelMode}
+use Rattle.sbc_modes.specs.declared.SbcChannelMode.the-variants.{Mono, DualChannel, Stereo, JointStereo}
 use Rattle.sbc_parameters.specs.declared.SbcParameters.{SbcParameters}
-use Rattle.sbc_parameters.specs.Parameters.{channelsOf, separate, channels, accepted}
+use Rattle.sbc_modes.specs.Modes.{channelsOf, separate}
+use Rattle.sbc_parameters.specs.Parameters.{channels, accepted}
 use Rattle.sbc_parameters.specs.Sizes.{blockBits}
 use Rattle.sbc_parameters.proofs.Accepted.{channels-range, ranges}
 use Rattle.sbc_need.specs.Need.{need}

@@ -8,7 +8,8 @@ use lib.IntN.{ℤ, pos, natAbs, _+ℤ_, _-ℤ_}
 use Rattle.laws.specs.Choice.{if_then_else_}
 use Rattle.laws.specs.Lists.{build, greatest}
 use Rattle.laws.specs.Integers.{floorDiv}
-use Rattle.sbc_parameters.specs.Parameters.{channels, isJoint}
+use Rattle.sbc_modes.specs.Modes.{isJoint}
+use Rattle.sbc_parameters.specs.Parameters.{channels}
 use Rattle.sbc_parameters.specs.Sizes.{joinCount}
 use Rattle.sbc_parameters.specs.declared.SbcParameters.{SbcParameters}
 use Rattle.sbc_quantizer.specs.Quantizing.{scaleFactor, quantize}

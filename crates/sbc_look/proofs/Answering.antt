@@ -4,9 +4,9 @@ use Prim.Native.Nat.{ℕ}
 use mathlib.Core.Path.{_≡_, refl, sym, ap}
 use mathlib.Core.Bool.{Bool}
 use native.Mathlib.Omega.{arith}
-use Rattle.sbc_parameters.specs.Errors.{errorNumber}
+use Rattle.codec.specs.Errors.{errorNumber}
 use Rattle.sbc_parameters.specs.declared.SbcParameters.{SbcParameters}
-use Rattle.sbc_parameters.proofs.Answers.{error-determined}
+use Rattle.codec.proofs.Answering.{error-determined}
 use Rattle.sbc_look.specs.Look.{cut, bad, whole, toldFront}
 use Rattle.sbc_look.specs.Next.{no-frame, refusal, plays, toldNext}
 use Rattle.sbc_look.specs.declared.Front.{Front}

@@ -8,7 +8,7 @@ use lib.ListN.{length, getD, take}
 use Rattle.laws.specs.Choice.{if_then_else_}
 use Rattle.laws.specs.Answers.{Told, gives, refuses}
 use Rattle.crc8.specs.Checksum.{checksum}
-use Rattle.sbc_parameters.specs.Errors.{errorNumber}
+use Rattle.codec.specs.Errors.{errorNumber}
 use Rattle.sbc_parameters.specs.Sizes.{sideBits, frameLength}
 use Rattle.sbc_parameters.specs.Header.{parse}
 use Rattle.sbc_parameters.specs.declared.SbcParameters.{SbcParameters}

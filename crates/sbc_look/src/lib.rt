@@ -1,6 +1,6 @@
 // A look at the input of a decoder: whether a whole frame stands in front, and whether its byte 3 holds its checksum; and what a decode call does next.
 // No state, no output.
-use sbc_parameters::Error;
+use codec::Error;
 use sbc_parameters::Parsed;
 use sbc_parameters::SbcParameters;
 ghost use mathlib.Core.Path.{_≡_};

@@ -13,8 +13,8 @@ use borrow.Author.Tests.{leb-true}
 use Rattle.laws.proofs.Cases.{by-test}
 use Rattle.laws.proofs.Difference.{sub-cases}
 use Rattle.laws.proofs.Tests.{and-left, and-right}
-use Rattle.sbc_parameters.specs.declared.SbcAllocation.{SbcAllocation}
-use Rattle.sbc_parameters.specs.declared.SbcAllocation.the-variants.{Loudness, Snr}
+use Rattle.sbc_modes.specs.declared.SbcAllocation.{SbcAllocation}
+use Rattle.sbc_modes.specs.declared.SbcAllocation.the-variants.{Loudness, Snr}
 use Rattle.sbc_parameters.specs.declared.SbcParameters.{SbcParameters}
 use Rattle.sbc_parameters.specs.Header.{frequencyIndex}
 use Rattle.sbc_tables.specs.Tables.{loudnessOffsets4, loudnessOffsets8, loudnessOffsets}

@@ -3,8 +3,8 @@ use mathlib.Core.List.{[]}
 use Prim.Native.Nat.{ℕ, zero, suc, _/_}
 use lib.ListN.{getD}
 use lib.IntN.{ℤ, pos, negsuc, _-ℤ_}
-use Rattle.sbc_parameters.specs.declared.SbcAllocation.{SbcAllocation}
-use Rattle.sbc_parameters.specs.declared.SbcAllocation.the-variants.{Loudness, Snr}
+use Rattle.sbc_modes.specs.declared.SbcAllocation.{SbcAllocation}
+use Rattle.sbc_modes.specs.declared.SbcAllocation.the-variants.{Loudness, Snr}
 use Rattle.sbc_parameters.specs.declared.SbcParameters.{SbcParameters}
 use Rattle.sbc_parameters.specs.Header.{frequencyIndex}
 use Rattle.sbc_tables.specs.Tables.{minus, loudnessOffsets}

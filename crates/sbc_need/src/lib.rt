@@ -1,5 +1,5 @@
 // What each subband needs: from its scale factor and, by loudness, from the table of offsets.
-use sbc_parameters::SbcAllocation;
+use sbc_modes::SbcAllocation;
 use sbc_parameters::SbcParameters;
 use sbc_tables::LOUDNESS_OFFSETS_4;
 use sbc_tables::LOUDNESS_OFFSETS_8;

@@ -10,13 +10,12 @@ use lib.ListN.{getD}
 use borrow.Author.Tests.{eqb-true, leb-true, ltb-true}
 use Rattle.laws.specs.Lists.{allOf, listed}
 use Rattle.laws.proofs.Tests.{all-true, listed-cases}
-use Rattle.sbc_parameters.specs.Parameters.{channelsOf, channels, sampleRates, blockCounts, subbandCounts, modeNumber, allocationNumber, maximumBitpool, isMsbc, msbc, msbcTests, fieldTests, accepted}
+use Rattle.sbc_modes.proofs.Numbers.{mono, loudness, channels-of-range}
+use Rattle.sbc_parameters.specs.Parameters.{channels, sampleRates, blockCounts, subbandCounts, maximumBitpool, isMsbc, msbc, msbcTests, fieldTests, accepted}
 use Rattle.sbc_parameters.specs.Sizes.{joinCount, blockBits, audioBits, frameLength, samplesPerChannel, frameSamples}
 use Rattle.sbc_parameters.specs.declared.SbcParameters.{SbcParameters}
-use Rattle.sbc_parameters.specs.declared.SbcChannelMode.{SbcChannelMode}
-use Rattle.sbc_parameters.specs.declared.SbcChannelMode.the-variants.{Mono, DualChannel, Stereo, JointStereo}
-use Rattle.sbc_parameters.specs.declared.SbcAllocation.{SbcAllocation}
-use Rattle.sbc_parameters.specs.declared.SbcAllocation.the-variants.{Loudness, Snr}
+use Rattle.sbc_modes.specs.declared.SbcChannelMode.{SbcChannelMode}
+use Rattle.sbc_modes.specs.declared.SbcChannelMode.the-variants.{Mono, DualChannel, Stereo, JointStereo}
 
 -- ---- the fields of an accepted set that is not mSBC
 pub record Fields (p : SbcParameters) : Type 0 where
@@ -41,16 +40,6 @@ fields p m a =
     }
 
 -- ---- 15 blocks are exactly mSBC
-mono : (m : SbcChannelMode) → modeNumber m ≡ 0 → m ≡ Mono
-mono Mono e = refl
-mono DualChannel e = absurd (omega arith)
-mono Stereo e = absurd (omega arith)
-mono JointStereo e = absurd (omega arith)
-
-loudness : (a : SbcAllocation) → allocationNumber a ≡ 0 → a ≡ Loudness
-loudness Loudness e = refl
-loudness Snr e = absurd (omega arith)
-
 pub is-msbc : (p : SbcParameters) → isMsbc p ≡ true → accepted p ≡ true → p ≡ msbc
 unfolding accepted msbcTests isMsbc msbc
 is-msbc p m a =
@@ -165,12 +154,6 @@ frame-length-range p a = go (p .«channel_mode») refl
     go JointStereo e = rw e (omega (arith, lower (p .bitpool), upper (p .bitpool), r), omega (arith, lower (p .bitpool), upper (p .bitpool), r))
 
 -- 1 or 2 channels
-channels-of-range : (m : SbcChannelMode) → (1 ≤ channelsOf m) × (channelsOf m ≤ 2)
-channels-of-range Mono = (lit≤ tt, lit≤ tt)
-channels-of-range DualChannel = (lit≤ tt, lit≤ tt)
-channels-of-range Stereo = (lit≤ tt, lit≤ tt)
-channels-of-range JointStereo = (lit≤ tt, lit≤ tt)
-
 pub channels-range : (p : SbcParameters) → (1 ≤ channels p) × (channels p ≤ 2)
 channels-range p = channels-of-range (p .«channel_mode»)
 

@@ -1,39 +1,22 @@
 -- What is told of an answer determines the answer: a contract on what is told fixes what is returned. And what the answer of `validate` says of a set.
 -- Assumes nothing.
-use Prim.Native.Nat.{ℕ, _-_}
-use mathlib.Core.Path.{_≡_, refl, sym, ap, _∙_}
+use Prim.Native.Nat.{ℕ}
+use mathlib.Core.Path.{_≡_, refl, sym, ap}
 use mathlib.Core.Bool.{true, false}
-use mathlib.Core.List.{List, [], _∷_}
 use native.Mathlib.Omega.{arith}
-use lib.ListN.{getD}
-use Rattle.sbc_parameters.specs.Errors.{errorNumber}
+use Rattle.codec.specs.Errors.{errorNumber}
+use Rattle.codec.proofs.Answering.{error-determined}
 use Rattle.laws.specs.Answers.{Told, gives, refuses}
 use Rattle.laws.proofs.Answers.{gives-refuses, refuses-same}
 use Rattle.laws.proofs.Cases.{by-test}
 use Rattle.sbc_parameters.specs.Parameters.{accepted, toldValidated, validate}
 use Rattle.sbc_parameters.specs.declared.SbcParameters.{SbcParameters}
 use Rattle.sbc_parameters.specs.Header.{toldParsed}
-use Rattle.sbc_parameters.specs.declared.Error.{Error}
-use Rattle.sbc_parameters.specs.declared.Error.the-variants.{Incomplete, InvalidHeader, InvalidParameter, InvalidData, BufferTooSmall}
+use Rattle.codec.specs.declared.Error.{Error}
 use Rattle.sbc_parameters.specs.declared.Parsed.{Parsed}
 use Rattle.sbc_parameters.specs.declared.Parsed.the-variants as parsed
 use Rattle.sbc_parameters.specs.declared.Validated.{Validated}
 use Rattle.sbc_parameters.specs.declared.Validated.the-variants as validated
-
-errors : List Error
-errors = Incomplete ∷ InvalidHeader ∷ InvalidParameter ∷ InvalidData ∷ BufferTooSmall ∷ []
-
-error-back : (e : Error) → getD errors (errorNumber e - 1) Incomplete ≡ e
-unfolding errors
-error-back Incomplete = refl
-error-back InvalidHeader = refl
-error-back InvalidParameter = refl
-error-back InvalidData = refl
-error-back BufferTooSmall = refl
-
--- a refusal's number determines the refusal
-pub error-determined : (e f : Error) → errorNumber e ≡ errorNumber f → e ≡ f
-error-determined e f h = sym (error-back e) ∙ ap (λ (n : ℕ). getD errors (n - 1) Incomplete) h ∙ error-back f
 
 pub parsed-determined : (a b : Parsed) → toldParsed a ≡ toldParsed b → a ≡ b
 unfolding toldParsed

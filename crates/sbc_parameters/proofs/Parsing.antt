@@ -11,14 +11,16 @@ use lib.Seq.{getD-take}
 use borrow.Author.Tests.{lt-ltb, le-ltb, ne-eqb}
 use Rattle.laws.specs.Choice.{if_then_else_}
 use Rattle.laws.specs.Answers.{gives, refuses}
-use Rattle.laws.specs.Lists.{listed}
-use Rattle.laws.proofs.Tests.{listed-back}
-use Rattle.sbc_parameters.specs.Parameters.{sampleRates, blockCounts, channelModes, allocations, subbandCounts, modeNumber, allocationNumber, isMsbc, msbc, accepted}
-use Rattle.sbc_parameters.specs.Header.{placeIn, frequencyIndex, settingsByte, header, fromSettings, parse}
+use Rattle.laws.specs.Lists.{listed, placeIn}
+use Rattle.laws.proofs.Tests.{place-back}
+use Rattle.sbc_modes.specs.Modes.{channelModes, allocations, modeNumber, allocationNumber}
+use Rattle.sbc_parameters.specs.Parameters.{sampleRates, blockCounts, subbandCounts, isMsbc, msbc, accepted}
+use Rattle.sbc_parameters.specs.Header.{frequencyIndex, settingsByte, header, fromSettings, parse}
 use Rattle.sbc_parameters.specs.declared.SbcParameters.{SbcParameters}
-use Rattle.sbc_parameters.specs.declared.SbcChannelMode.the-variants.{JointStereo}
-use Rattle.sbc_parameters.specs.declared.SbcAllocation.the-variants.{Snr}
-use Rattle.sbc_parameters.proofs.Numbers.{mode-lt, mode-back, allocation-lt, allocation-back, frequency-lt, blocks-lt, subbands-lt}
+use Rattle.sbc_modes.specs.declared.SbcChannelMode.the-variants.{JointStereo}
+use Rattle.sbc_modes.specs.declared.SbcAllocation.the-variants.{Snr}
+use Rattle.sbc_modes.proofs.Numbers.{mode-lt, mode-back, allocation-lt, allocation-back}
+use Rattle.sbc_parameters.proofs.Numbers.{frequency-lt, blocks-lt, subbands-lt}
 use Rattle.sbc_parameters.proofs.Accepted.{Fields, fields, is-msbc, msbc-accepted}
 
 -- ---- the cases
@@ -44,10 +46,6 @@ parse-other bytes l m n = rw (le-ltb (length bytes) 3 l, ne-eqb (getD bytes 0 0)
 digits : (r b m a s : ℕ) → r < 4 → b < 4 → m < 4 → a < 2 → s < 2 → let n = r * 64 + b * 16 + m * 4 + a * 2 + s in
     (n / 64 ≡ r) × (n / 16 % 4 ≡ b) × (n / 4 % 4 ≡ m) × (n / 2 % 2 ≡ a) × (n % 2 ≡ s)
 digits r b m a s hr hb hm ha hs = (omega arith, omega arith, omega arith, omega arith, omega arith)
-
-place-back : (x : ℕ) (xs : List ℕ) → listed x xs ≡ true → getD xs (placeIn x xs) 0 ≡ x
-unfolding placeIn
-place-back x xs h = rw h (listed-back x xs h)
 
 rate-back : (p : SbcParameters) → listed (p .«sample_rate») sampleRates ≡ true → getD sampleRates (frequencyIndex p) 0 ≡ p .«sample_rate»
 unfolding frequencyIndex

@@ -5,20 +5,17 @@ use lib.Dec.{eqb, ltb}
 use lib.ListN.{length, getD}
 use Rattle.laws.specs.Choice.{if_then_else_}
 use Rattle.laws.specs.Answers.{Told, gives, refuses}
-use Rattle.laws.specs.Lists.{indexOf, listed}
-use Rattle.sbc_parameters.specs.Errors.{errorNumber}
-use Rattle.sbc_parameters.specs.Parameters.{sampleRates, blockCounts, channelModes, allocations, subbandCounts, modeNumber, allocationNumber, isMsbc, msbc, accepted}
-use Rattle.sbc_parameters.specs.declared.SbcChannelMode.the-variants.{JointStereo}
-use Rattle.sbc_parameters.specs.declared.SbcAllocation.the-variants.{Snr}
+use Rattle.laws.specs.Lists.{placeIn}
+use Rattle.codec.specs.Errors.{errorNumber}
+use Rattle.sbc_modes.specs.Modes.{channelModes, allocations, modeNumber, allocationNumber}
+use Rattle.sbc_parameters.specs.Parameters.{sampleRates, blockCounts, subbandCounts, isMsbc, msbc, accepted}
+use Rattle.sbc_modes.specs.declared.SbcChannelMode.the-variants.{JointStereo}
+use Rattle.sbc_modes.specs.declared.SbcAllocation.the-variants.{Snr}
 use Rattle.sbc_parameters.specs.declared.SbcParameters.{SbcParameters}
 use Rattle.sbc_parameters.specs.declared.Parsed.{Parsed}
 use Rattle.sbc_parameters.specs.declared.Parsed.the-variants.{Parameters, Refused}
 
--- ---- writing
-
--- the index of a value in its list; a value that is not listed, which no accepted set has, counts as index 0
-unfoldable pub placeIn : ℕ → List ℕ → ℕ
-placeIn x xs = if listed x xs then indexOf x xs else 0
+-- ---- writing: each field by the index of its value in its list; a value that is not listed, which no accepted set has, counts as index 0
 
 -- the index of the rate
 unfoldable pub frequencyIndex : SbcParameters → ℕ

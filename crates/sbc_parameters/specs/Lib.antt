@@ -1,4 +1,3 @@
-pub mod Errors
 pub mod Parameters
 pub mod Sizes
 pub mod Header

@@ -1,16 +1,15 @@
 -- The parameters of a stream, and which sets of them are accepted. From document 01, "Parameters" and "The words of demand 3".
 use Prim.Native.Nat.{ℕ, _*_}
-use mathlib.Core.Bool.{Bool, true, false}
+use mathlib.Core.Bool.{Bool}
 use mathlib.Core.List.{List, [], _∷_}
 use lib.Dec.{eqb, leb, ltb}
 use Rattle.laws.specs.Choice.{if_then_else_}
 use Rattle.laws.specs.Answers.{Told, gives, refuses}
 use Rattle.laws.specs.Lists.{allOf, listed}
-use Rattle.sbc_parameters.specs.Errors.{errorNumber}
-use Rattle.sbc_parameters.specs.declared.SbcChannelMode.{SbcChannelMode}
-use Rattle.sbc_parameters.specs.declared.SbcChannelMode.the-variants.{Mono, DualChannel, Stereo, JointStereo}
-use Rattle.sbc_parameters.specs.declared.SbcAllocation.{SbcAllocation}
-use Rattle.sbc_parameters.specs.declared.SbcAllocation.the-variants.{Loudness, Snr}
+use Rattle.codec.specs.Errors.{errorNumber}
+use Rattle.sbc_modes.specs.Modes.{modeNumber, allocationNumber, channelsOf, separate}
+use Rattle.sbc_modes.specs.declared.SbcChannelMode.the-variants.{Mono, JointStereo}
+use Rattle.sbc_modes.specs.declared.SbcAllocation.the-variants.{Loudness}
 use Rattle.sbc_parameters.specs.declared.SbcParameters.{SbcParameters}
 use Rattle.sbc_parameters.specs.declared.Validated.{Validated}
 use Rattle.sbc_parameters.specs.declared.Validated.the-variants.{Accepted, Refused}
@@ -31,50 +30,10 @@ sampleRates = 16000 ∷ 32000 ∷ 44100 ∷ 48000 ∷ []
 unfoldable pub blockCounts : List ℕ
 blockCounts = 4 ∷ 8 ∷ 12 ∷ 16 ∷ []
 
-unfoldable pub channelModes : List SbcChannelMode
-channelModes = Mono ∷ DualChannel ∷ Stereo ∷ JointStereo ∷ []
-
-unfoldable pub allocations : List SbcAllocation
-allocations = Loudness ∷ Snr ∷ []
-
 unfoldable pub subbandCounts : List ℕ
 subbandCounts = 4 ∷ 8 ∷ []
 
--- the index of a mode
-abbrev pub modeNumber : SbcChannelMode → ℕ
-modeNumber Mono = 0
-modeNumber DualChannel = 1
-modeNumber Stereo = 2
-modeNumber JointStereo = 3
-
--- the index of an allocation
-abbrev pub allocationNumber : SbcAllocation → ℕ
-allocationNumber Loudness = 0
-allocationNumber Snr = 1
-
--- ---- what the channel mode says
-
-abbrev pub channelsOf : SbcChannelMode → ℕ
-channelsOf Mono = 1
-channelsOf DualChannel = 2
-channelsOf Stereo = 2
-channelsOf JointStereo = 2
-
--- each channel has a bitpool of its own
-abbrev pub separate : SbcChannelMode → Bool
-separate Mono = true
-separate DualChannel = true
-separate Stereo = false
-separate JointStereo = false
-
--- subbands may be joined
-abbrev pub isJoint : SbcChannelMode → Bool
-isJoint Mono = false
-isJoint DualChannel = false
-isJoint Stereo = false
-isJoint JointStereo = true
-
--- the channels of a set
+-- ---- the channels of a set
 abbrev pub channels : SbcParameters → ℕ
 channels p = channelsOf (p .«channel_mode»)
 

@@ -1,7 +1,8 @@
 -- The sizes of a frame, for all values of the fields. From document 01, "Parameters".
 use Prim.Native.Nat.{ℕ, _+_, _*_, _/_}
 use Rattle.laws.specs.Choice.{if_then_else_}
-use Rattle.sbc_parameters.specs.Parameters.{channels, separate, isJoint}
+use Rattle.sbc_modes.specs.Modes.{separate, isJoint}
+use Rattle.sbc_parameters.specs.Parameters.{channels}
 use Rattle.sbc_parameters.specs.declared.SbcParameters.{SbcParameters}
 
 -- one join flag a subband, in joint stereo only

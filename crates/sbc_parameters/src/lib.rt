@@ -1,14 +1,15 @@
 // The parameters of an SBC stream: which sets are accepted, the sizes of a frame, and its header.
+use codec::Error;
+use laws::is_listed;
+use laws::place_in;
+use sbc_modes::SbcAllocation;
+use sbc_modes::SbcChannelMode;
 ghost use mathlib.Core.Path.{_≡_};
 ghost use Prim.Native.Nat.{_+_, _*_, _<_, _≤_};
-ghost use lib.ListN.{getD};
-ghost use Rattle.laws.specs.Lists.{allOf, indexOf, listed};
-ghost use Rattle.sbc_parameters.specs.Errors.{errorNumber};
-ghost use Rattle.sbc_parameters.specs.Parameters.{highQuality, channelModes, allocations, modeNumber, allocationNumber, channelsOf, channels, maximumBitpool, isMsbc, msbcTests, fieldTests, accepted, toldValidated, validate};
+ghost use Rattle.laws.specs.Lists.{allOf};
+ghost use Rattle.sbc_parameters.specs.Parameters.{highQuality, channels, maximumBitpool, isMsbc, msbcTests, fieldTests, accepted, toldValidated, validate};
 ghost use Rattle.sbc_parameters.specs.Sizes.{joinCount, sideBits, blockBits, frameLength, samplesPerChannel, frameSamples};
-ghost use Rattle.sbc_parameters.specs.Header.{placeIn, frequencyIndex, settingsByte, header, fromSettings, toldParsed, parse};
-ghost use Rattle.sbc_parameters.specs.declared.SbcChannelMode.the-variants.{JointStereo};
-ghost use Rattle.sbc_parameters.specs.declared.SbcAllocation.the-variants.{Snr};
+ghost use Rattle.sbc_parameters.specs.Header.{frequencyIndex, settingsByte, header, fromSettings, toldParsed, parse};
 
 // The largest SBC frame, in bytes.
 pub const SBC_MAXIMUM_FRAME_LENGTH: usize = 524;
@@ -30,26 +31,6 @@ const BLOCK_COUNTS: [u32; 4] = [4, 8, 12, 16];
 
 const SUBBAND_COUNTS: [u32; 2] = [4, 8];
 
-// How a frame codes its channels.
-pub enum SbcChannelMode {
-    // One channel.
-    Mono,
-    // Two channels coded independently, each with its own bitpool.
-    DualChannel,
-    // Two channels sharing one bitpool.
-    Stereo,
-    // Two channels sharing one bitpool, where each subband can be coded as the sum and difference of the channels.
-    JointStereo,
-}
-
-// How the bitpool is spread across subbands.
-pub enum SbcAllocation {
-    // Weighted by a model of hearing, the usual choice.
-    Loudness,
-    // In proportion to the scale factors only.
-    Snr,
-}
-
 // The parameters of an SBC stream, as each frame header has them.
 pub struct SbcParameters {
     // In Hz: 16000, 32000, 44100 or 48000.
@@ -64,30 +45,6 @@ pub struct SbcParameters {
     pub bitpool: u8,
 }
 
-// Why a call was refused.
-pub enum Error {
-    Incomplete,
-    InvalidHeader,
-    InvalidParameter,
-    InvalidData,
-    BufferTooSmall,
-}
-
-impl Error {
-    // The refusal's number in document 01.
-    pub fn number(self) -> u8
-        ensures { λ r. ⌜ r ≡ errorNumber self ⌝ }
-    {
-        match self {
-            Error::Incomplete => 1,
-            Error::InvalidHeader => 2,
-            Error::InvalidParameter => 3,
-            Error::InvalidData => 4,
-            Error::BufferTooSmall => 5,
-        }
-    }
-}
-
 // What `parse` gives back.
 pub enum Parsed {
     Parameters(SbcParameters),
@@ -98,98 +55,6 @@ pub enum Parsed {
 pub enum Validated {
     Accepted,
     Refused(Error),
-}
-
-impl SbcChannelMode {
-    // 1 in mono, else 2.
-    pub fn channels(self) -> u8
-        ensures { λ r. ⌜ r ≡ channelsOf self ⌝ }
-    {
-        match self {
-            SbcChannelMode::Mono => 1,
-            SbcChannelMode::DualChannel => 2,
-            SbcChannelMode::Stereo => 2,
-            SbcChannelMode::JointStereo => 2,
-        }
-    }
-
-    // Its number in the header.
-    pub fn number(self) -> u8
-        ensures { λ r. ⌜ r ≡ modeNumber self ⌝ }
-    {
-        match self {
-            SbcChannelMode::Mono => 0,
-            SbcChannelMode::DualChannel => 1,
-            SbcChannelMode::Stereo => 2,
-            SbcChannelMode::JointStereo => 3,
-        }
-    }
-
-    // The mode of a number in the header; every number past 2 counts as 3.
-    pub fn from_number(number: u8) -> SbcChannelMode
-        ensures { λ r. ⌜ r ≡ getD channelModes number JointStereo ⌝ }
-    {
-        match number {
-            0 => SbcChannelMode::Mono,
-            1 => SbcChannelMode::DualChannel,
-            2 => SbcChannelMode::Stereo,
-            _ => SbcChannelMode::JointStereo,
-        }
-    }
-}
-
-impl SbcAllocation {
-    // Its number in the header.
-    pub fn number(self) -> u8
-        ensures { λ r. ⌜ r ≡ allocationNumber self ⌝ }
-    {
-        match self {
-            SbcAllocation::Loudness => 0,
-            SbcAllocation::Snr => 1,
-        }
-    }
-
-    // The allocation of a number in the header; every number past 0 counts as 1.
-    pub fn from_number(number: u8) -> SbcAllocation
-        ensures { λ r. ⌜ r ≡ getD allocations number Snr ⌝ }
-    {
-        match number {
-            0 => SbcAllocation::Loudness,
-            _ => SbcAllocation::Snr,
-        }
-    }
-}
-
-// The place of a value in a list, or the list's length where it is not in it.
-fn index_of(value: u32, values: &[u32]) -> usize
-    ensures { λ r. ⌜ r ≡ indexOf value (now (values .entry)) ⌝ }
-{
-    let mut i = 0;
-    while i < values.len() {
-        if value == values[i] {
-            return i;
-        }
-        i += 1;
-    }
-    i
-}
-
-// Whether a value is in a list.
-fn is_listed(value: u32, values: &[u32]) -> bool
-    ensures { λ r. ⌜ r ≡ listed value (now (values .entry)) ⌝ }
-{
-    index_of(value, values) < values.len()
-}
-
-// The place of a value in a list, or 0 where it is not in it.
-fn place_in(value: u32, values: &[u32]) -> usize
-    ensures { λ r. ⌜ r ≡ placeIn value (now (values .entry)) ⌝ }
-{
-    let place = index_of(value, values);
-    if place < values.len() {
-        return place;
-    }
-    0
 }
 
 fn product(a: u8, b: u8) -> usize
@@ -353,12 +218,10 @@ impl SbcParameters {
     {
         let mode = self.channel_mode;
         let subbands = wide(self.subbands);
-        match mode {
-            SbcChannelMode::Mono => 16 * subbands,
-            SbcChannelMode::DualChannel => 16 * subbands,
-            SbcChannelMode::Stereo => 32 * subbands,
-            SbcChannelMode::JointStereo => 32 * subbands,
+        if mode.is_separate() {
+            return 16 * subbands;
         }
+        32 * subbands
     }
 
     // The number of join flags: one a subband, in joint stereo only.
@@ -366,12 +229,10 @@ impl SbcParameters {
         ensures { λ r. ⌜ (r ≡ joinCount self) × (r ≤ 255) ⌝ }
     {
         let mode = self.channel_mode;
-        match mode {
-            SbcChannelMode::Mono => 0,
-            SbcChannelMode::DualChannel => 0,
-            SbcChannelMode::Stereo => 0,
-            SbcChannelMode::JointStereo => wide(self.subbands),
+        if mode.is_joint() {
+            return wide(self.subbands);
         }
+        0
     }
 
     // The bits of the quantized values of one block.
@@ -379,13 +240,12 @@ impl SbcParameters {
         ensures { λ r. ⌜ (r ≡ blockBits self) × (r ≤ 510) ⌝ }
     {
         let mode = self.channel_mode;
+        let channels = wide(mode.channels());
         let bitpool = wide(self.bitpool);
-        match mode {
-            SbcChannelMode::Mono => bitpool,
-            SbcChannelMode::DualChannel => 2 * bitpool,
-            SbcChannelMode::Stereo => bitpool,
-            SbcChannelMode::JointStereo => bitpool,
+        if mode.is_separate() {
+            return channels * bitpool;
         }
+        bitpool
     }
 
     // The size of one frame in bytes.

@@ -1,9 +1,9 @@
 -- What is told of a seek's answer determines it: a contract on what is told fixes what is returned.
 -- Assumes nothing.
 use mathlib.Core.Path.{_≡_, sym, ap}
-use Rattle.sbc_parameters.specs.Errors.{errorNumber}
+use Rattle.codec.specs.Errors.{errorNumber}
 use Rattle.laws.proofs.Answers.{gives-same, refuses-same, gives-refuses}
-use Rattle.sbc_parameters.proofs.Answers.{error-determined}
+use Rattle.codec.proofs.Answering.{error-determined}
 use Rattle.sbc_seek.specs.Seek.{toldSeek}
 use Rattle.sbc_seek.specs.declared.SeekRequest.{SeekRequest}
 use Rattle.sbc_seek.specs.declared.SeekOutcome.{SeekOutcome}

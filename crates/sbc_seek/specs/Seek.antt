@@ -5,7 +5,7 @@ use mathlib.Core.Bool.{_&&_}
 use lib.Dec.{eqb, ltb}
 use Rattle.laws.specs.Choice.{if_then_else_}
 use Rattle.laws.specs.Answers.{Told, gives, refuses}
-use Rattle.sbc_parameters.specs.Errors.{errorNumber}
+use Rattle.codec.specs.Errors.{errorNumber}
 use Rattle.sbc_parameters.specs.Parameters.{accepted}
 use Rattle.sbc_parameters.specs.Sizes.{samplesPerChannel, frameLength}
 use Rattle.sbc_parameters.specs.declared.SbcParameters.{SbcParameters}

@@ -1,6 +1,6 @@
 // Where decoding resumes for a position: a byte offset of the stream, and the samples that the decoder then drops. No state: what it depends on is
 // the position and the parameters of the last accepted frame.
-use sbc_parameters::Error;
+use codec::Error;
 use sbc_parameters::SbcParameters;
 use sbc_parameters::Validated;
 ghost use mathlib.Core.Path.{_≡_};

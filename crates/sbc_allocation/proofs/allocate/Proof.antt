@@ -8,9 +8,9 @@ use native.Mathlib.Omega.{arith}
 use borrow.Author.Needs.{needs}
 use lib.IntN.{ℤ}
 use lib.ListN.{getD}
-use Rattle.sbc_parameters.specs.declared.SbcChannelMode.{SbcChannelMode}
-use Rattle.sbc_parameters.specs.declared.SbcChannelMode.the-variants.{Mono, DualChannel, Stereo, JointStereo}
-use Rattle.sbc_parameters.specs.Parameters.{channelsOf, separate}
+use Rattle.sbc_modes.specs.declared.SbcChannelMode.{SbcChannelMode}
+use Rattle.sbc_modes.specs.declared.SbcChannelMode.the-variants.{Mono, DualChannel, Stereo, JointStereo}
+use Rattle.sbc_modes.specs.Modes.{channelsOf, separate}
 use Rattle.sbc_share.specs.Share.{share}
 use Rattle.sbc_allocation.specs.Allocate.{channelNeeds, rowsTogether, allocateBy, allocate, tableRow, allocationTable}
 use Rattle.sbc_allocation.proofs.allocate.Statement.{statement}

@@ -3,8 +3,8 @@
 use mathlib.Core.Path.{_≡_, sym, ap}
 use mathlib.Core.Bool.{not}
 use borrow.Author.Needs.{needs}
-use Rattle.sbc_parameters.specs.declared.SbcChannelMode.{SbcChannelMode}
-use Rattle.sbc_parameters.specs.Parameters.{separate}
+use Rattle.sbc_modes.specs.declared.SbcChannelMode.{SbcChannelMode}
+use Rattle.sbc_modes.specs.Modes.{separate}
 use Rattle.sbc_allocation.proofs.is_shared.Statement.{statement}
 use Rattle.sbc_allocation.proofs.is_shared.Tie as tie
 

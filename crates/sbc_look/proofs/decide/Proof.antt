@@ -2,7 +2,7 @@
 -- Assumes nothing.
 use mathlib.Core.Path.{_≡_, sym, ap, _∙_}
 use lib.ListN.{length}
-use Rattle.sbc_parameters.specs.Errors.{errorNumber}
+use Rattle.codec.specs.Errors.{errorNumber}
 use Rattle.sbc_look.specs.Look.{Look, cut, bad, whole, look, toldFront}
 use Rattle.sbc_look.specs.Next.{nextAt, next, toldNext}
 use borrow.Author.Needs.{needs}

@@ -5,7 +5,7 @@ use lib.Dec.{eqb}
 use borrow.Author.Tests.{eq-eqb, ne-eqb}
 use Rattle.laws.specs.Choice.{if_then_else_}
 use Rattle.laws.specs.Answers.{gives}
-use Rattle.sbc_parameters.specs.Errors.{errorNumber}
+use Rattle.codec.specs.Errors.{errorNumber}
 use Rattle.sbc_parameters.specs.Header.{toldParsed, parse}
 use Rattle.sbc_parameters.proofs.Parsing.{parsed-accepted}
 use Rattle.sbc_look.specs.Look.{cut, bad, lookParsed, look, toldFront}

@@ -8,7 +8,7 @@ use lib.IntN.{ℤ}
 use mir.Syntax.{w32}
 use mir.Facts.{toZ-pos}
 use Rattle.laws.proofs.Abs.{read-back}
-use Rattle.sbc_parameters.specs.declared.SbcAllocation.{SbcAllocation}
+use Rattle.sbc_modes.specs.declared.SbcAllocation.{SbcAllocation}
 use Rattle.sbc_parameters.proofs.Numbers.{frequency-lt}
 use Rattle.sbc_need.specs.Need.{loudnessOffset, loudnessNeed, needBy, need}
 use Rattle.sbc_need.proofs.Needs.{offset-small}

@@ -9,7 +9,7 @@ use lib.IntN.{ℤ}
 use lib.ListN.{length, take, drop, length-drop}
 use borrow.Rule.Slice.PartMut.{putMid}
 use Rattle.laws.proofs.Parts.{tail-part, put-tail}
-use Rattle.sbc_parameters.specs.Errors.{errorNumber}
+use Rattle.codec.specs.Errors.{errorNumber}
 use Rattle.codec.specs.Answers.{toldCoded, progressOf}
 use Rattle.sbc_decoder.specs.Decode.{none-whole, taken, decodeNext, answerOf, Decoded}
 use Rattle.sbc_decoder.specs.Told.{toldOutcome, toldTurn, toldDecoded}

@@ -1,7 +1,7 @@
 -- `SbcDecoder::sought` meets its contract.
 -- Assumes nothing.
 use mathlib.Core.Path.{sym, ap, _∙_}
-use Rattle.sbc_parameters.specs.Errors.{errorNumber}
+use Rattle.codec.specs.Errors.{errorNumber}
 use Rattle.sbc_seek.specs.Seek.{toldSeek}
 use Rattle.sbc_decoder.specs.Seek.{toldSought}
 use Rattle.sbc_decoder.proofs.Seeking.{seek-given, seek-turned-away}

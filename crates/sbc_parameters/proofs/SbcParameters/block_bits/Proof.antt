@@ -1,56 +1,47 @@
--- `SbcParameters::block_bits` meets its contract, mode by mode.
+-- `SbcParameters::block_bits` meets its contract: at most 2 channels of a bitpool of at most 255.
 -- Assumes nothing.
+use Prim.Native.Nat.{_*_, _≤_}
+use mathlib.Core.Path.{sym, ap₂, _∙_}
+use native.Mathlib.Nat.{mul-le-mul}
 use native.Mathlib.Omega.{arith}
+use Rattle.sbc_modes.proofs.Numbers.{channels-of-range}
 use Rattle.sbc_parameters.specs.Sizes.{blockBits}
 use borrow.Author.Needs.{needs}
 use Rattle.sbc_parameters.proofs.SbcParameters.block_bits.Statement.{statement}
 use Rattle.sbc_parameters.proofs.SbcParameters.block_bits.Tie as tie
 
+channels-requires : tie.Need-channels-requires
+channels-requires c κs = search needs
+
 wide-requires : tie.Need-wide-requires
 wide-requires c κs = search needs
 
-enum-told : tie.Need-enum-told
-enum-told c = search needs
+wide-requires-2 : tie.Need-wide-requires-2
+wide-requires-2 c κs = search needs
 
-enum-told-2 : tie.Need-enum-told-2
-enum-told-2 c = search needs
+is-separate-requires : tie.Need-is-separate-requires
+is-separate-requires c κs = search needs
+
+small : (c : tie.After-wide2) → c .before .wide .result * c .wide2 .result ≤ 510
+small c =
+    let two = channels-of-range (c .before .before .before .args .self .«channel_mode») in
+    mul-le-mul {n₂ = 2} {m₂ = 255} (omega (arith, c .before .wide .ensures .0, c .before .before .channels .ensures, two)) (omega arith)
 
 mul-result : tie.Need-mul-result
-mul-result c = search needs
-
-enum-told-3 : tie.Need-enum-told-3
-enum-told-3 c = search needs
-
-enum-told-4 : tie.Need-enum-told-4
-enum-told-4 c = search needs
+mul-result c = omega (arith, small (c .before .before))
 
 returns : tie.Need-returns
 unfolding blockBits
-returns c = (rw (c .enum-told .given .1) (omega (arith, c .before .before .wide .ensures .0)), omega arith)
+returns c =
+    let w = c .before .before in
+    let channels = w .before .wide .ensures .0 ∙ w .before .before .channels .ensures in
+    (rw (sym (c .before .is-separate .ensures) ∙ c .if1 .taken) (ap₂ (λ x y. x * y) channels (w .wide2 .ensures .0)), small w)
 
 returns-2 : tie.Need-returns-2
 unfolding blockBits
-returns-2 c = (rw (c .enum-told2 .given .1) (omega (arith, c .before .before .wide .ensures .0)), omega arith)
-
-returns-3 : tie.Need-returns-3
-unfolding blockBits
-returns-3 c = (rw (c .enum-told3 .given .1) (omega (arith, c .before .before .wide .ensures .0)), omega arith)
-
-returns-4 : tie.Need-returns-4
-unfolding blockBits
-returns-4 c = (rw (c .enum-told4 .given .1) (omega (arith, c .before .before .wide .ensures .0)), omega arith)
+returns-2 c = (rw (sym (c .before .is-separate .ensures) ∙ c .if1 .left) (c .before .before .wide2 .ensures .0), omega arith)
 
 pub block-bits-spec : {M : Type 1} → statement M
 block-bits-spec =
     tie.close
-    (tie.spec
-    wide-requires
-    enum-told
-    enum-told-2
-    mul-result
-    enum-told-3
-    enum-told-4
-    returns
-    returns-2
-    returns-3
-    returns-4)
+    (tie.spec channels-requires wide-requires wide-requires-2 is-separate-requires mul-result returns returns-2)

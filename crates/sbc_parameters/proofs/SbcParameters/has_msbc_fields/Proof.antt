@@ -4,7 +4,8 @@ use mathlib.Core.Path.{sym, _∙_}
 use borrow.Author.Tests.{eq-eqb, ne-eqb}
 use Rattle.laws.specs.Lists.{allOf}
 use Rattle.laws.proofs.Tests.{all-false, and-true}
-use Rattle.sbc_parameters.specs.Parameters.{modeNumber, allocationNumber, msbcTests}
+use Rattle.sbc_modes.specs.Modes.{modeNumber, allocationNumber}
+use Rattle.sbc_parameters.specs.Parameters.{msbcTests}
 use borrow.Author.Needs.{needs}
 use Rattle.sbc_parameters.proofs.SbcParameters.has_msbc_fields.Statement.{statement}
 use Rattle.sbc_parameters.proofs.SbcParameters.has_msbc_fields.Tie as tie

@@ -3,7 +3,8 @@
 use native.Mathlib.Omega.{arith}
 use Rattle.sbc_parameters.specs.Parameters.{blockCounts, subbandCounts}
 use Rattle.sbc_parameters.specs.Header.{settingsByte}
-use Rattle.sbc_parameters.proofs.Numbers.{mode-lt, allocation-lt, frequency-lt, blocks-lt, subbands-lt}
+use Rattle.sbc_modes.proofs.Numbers.{mode-lt, allocation-lt}
+use Rattle.sbc_parameters.proofs.Numbers.{frequency-lt, blocks-lt, subbands-lt}
 use borrow.Author.Needs.{needs}
 use Rattle.sbc_parameters.proofs.SbcParameters.settings_byte.Statement.{statement}
 use Rattle.sbc_parameters.proofs.SbcParameters.settings_byte.Tie as tie

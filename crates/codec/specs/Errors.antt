@@ -1,7 +1,7 @@
 -- The numbers of the refusals. From document 01, "Given back".
 use Prim.Native.Nat.{ℕ}
-use Rattle.sbc_parameters.specs.declared.Error.{Error}
-use Rattle.sbc_parameters.specs.declared.Error.the-variants.{Incomplete, InvalidHeader, InvalidParameter, InvalidData, BufferTooSmall}
+use Rattle.codec.specs.declared.Error.{Error}
+use Rattle.codec.specs.declared.Error.the-variants.{Incomplete, InvalidHeader, InvalidParameter, InvalidData, BufferTooSmall}
 
 abbrev pub errorNumber : Error → ℕ
 errorNumber Incomplete = 1

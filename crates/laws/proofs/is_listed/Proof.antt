@@ -1,9 +1,9 @@
 -- `is_listed` meets its contract.
 -- Assumes nothing.
 use Rattle.laws.specs.Lists.{listed}
 use borrow.Author.Needs.{needs}
-use Rattle.sbc_parameters.proofs.is_listed.Statement.{statement}
-use Rattle.sbc_parameters.proofs.is_listed.Tie as tie
+use Rattle.laws.proofs.is_listed.Statement.{statement}
+use Rattle.laws.proofs.is_listed.Tie as tie
 
 index-of-requires : tie.Need-index-of-requires
 index-of-requires c κs = search needs

@@ -4,10 +4,10 @@ use mathlib.Core.Path.{_≡_}
 use Prim.Native.Nat.{_+_, _-_, _≤_}
 use native.Mathlib.Omega.{arith}
 use lib.ListN.{length, drop}
 use Rattle.laws.specs.Lists.{indexOf}
 use Rattle.laws.proofs.Tests.{index-here, index-next, index-end}
-use Rattle.sbc_parameters.proofs.index_of.Statement.{statement}
-use Rattle.sbc_parameters.proofs.index_of.Tie as tie
+use Rattle.laws.proofs.index_of.Statement.{statement}
+use Rattle.laws.proofs.index_of.Tie as tie
 
 abbrev Inv-loop : tie.InvT-loop
 Inv-loop value values i₀ i = (i ≤ length values) × (i + indexOf value (drop i values) ≡ indexOf value values)

@@ -1,10 +1,10 @@
 -- `SbcAllocation::from_number` meets its contract: the arms are the entries of the list.
 -- Assumes nothing.
 use mathlib.Core.Path.{sym}
-use Rattle.sbc_parameters.specs.Parameters.{allocations}
-use Rattle.sbc_parameters.proofs.Numbers.{allocation-rest}
-use Rattle.sbc_parameters.proofs.SbcAllocation.from_number.Statement.{statement}
-use Rattle.sbc_parameters.proofs.SbcAllocation.from_number.Tie as tie
+use Rattle.sbc_modes.specs.Modes.{allocations}
+use Rattle.sbc_modes.proofs.Numbers.{allocation-rest}
+use Rattle.sbc_modes.proofs.SbcAllocation.from_number.Statement.{statement}
+use Rattle.sbc_modes.proofs.SbcAllocation.from_number.Tie as tie
 
 returns : tie.Need-returns
 unfolding allocations

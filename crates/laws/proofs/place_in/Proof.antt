@@ -1,11 +1,10 @@
 -- `place_in` meets its contract.
 -- Assumes nothing.
 use borrow.Author.Tests.{lt-ltb, le-ltb}
-use Rattle.laws.specs.Lists.{listed}
-use Rattle.sbc_parameters.specs.Header.{placeIn}
+use Rattle.laws.specs.Lists.{listed, placeIn}
 use borrow.Author.Needs.{needs}
-use Rattle.sbc_parameters.proofs.place_in.Statement.{statement}
-use Rattle.sbc_parameters.proofs.place_in.Tie as tie
+use Rattle.laws.proofs.place_in.Statement.{statement}
+use Rattle.laws.proofs.place_in.Tie as tie
 
 index-of-requires : tie.Need-index-of-requires
 index-of-requires c κs = search needs

@@ -1,10 +1,10 @@
 -- `SbcChannelMode::from_number` meets its contract: the arms are the entries of the list.
 -- Assumes nothing.
 use mathlib.Core.Path.{sym}
-use Rattle.sbc_parameters.specs.Parameters.{channelModes}
-use Rattle.sbc_parameters.proofs.Numbers.{mode-rest}
-use Rattle.sbc_parameters.proofs.SbcChannelMode.from_number.Statement.{statement}
-use Rattle.sbc_parameters.proofs.SbcChannelMode.from_number.Tie as tie
+use Rattle.sbc_modes.specs.Modes.{channelModes}
+use Rattle.sbc_modes.proofs.Numbers.{mode-rest}
+use Rattle.sbc_modes.proofs.SbcChannelMode.from_number.Statement.{statement}
+use Rattle.sbc_modes.proofs.SbcChannelMode.from_number.Tie as tie
 
 returns : tie.Need-returns
 unfolding channelModes

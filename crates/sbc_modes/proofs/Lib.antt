@@ -1,0 +1,2 @@
+-- Laws of the modes and the allocations.
+pub mod Numbers
