@@ -1,9 +1,14 @@
 -- `sbc_code::code_joint` meets its contract: what it has in the end is `Joint`.
 -- Assumes nothing.
 use Prim.Native.Nat.{_≤_}
+use mathlib.Core.Path.{ap, _∙_}
+use mathlib.Core.List.{List}
 use native.Mathlib.Omega.{arith}
+use lib.IntN.{ℤ}
 use borrow.Author.Needs.{needs}
 use Rattle.sbc_parameters.proofs.Accepted.{ranges}
+use Rattle.sbc_frame.specs.Arrays.{sampleIn}
+use Rattle.sbc_join.proofs.Picked.{picked-sample}
 use Rattle.sbc_code.proofs.Chosen.{factors-low, joint-is}
 use Rattle.sbc_code.proofs.code_joint.Statement.{statement}
 use Rattle.sbc_code.proofs.code_joint.Tie as tie
@@ -86,8 +91,8 @@ returns c =
       flags-are = after-flags .join-flags .ensures;
       left-factors-are = c .before .before .before .before .pick-row .ensures;
       right-factors-are = c .pick-row2 .ensures;
-      left-is = after-left .pick-samples .ensures .1;
-      right-is = after-right .pick-samples2 .ensures .1;
+      left-is = λ b t hb ht. ap (λ (xs : List ℤ). sampleIn xs b t) (after-left .pick-samples .ensures) ∙ picked-sample _ _ _ _ b t hb (few s) ht;
+      right-is = λ b t hb ht. ap (λ (xs : List ℤ). sampleIn xs b t) (after-right .pick-samples2 .ensures) ∙ picked-sample _ _ _ _ b t hb (few s) ht;
     })
 
 pub code-joint-spec : {M : Type 1} → statement M
