@@ -3,11 +3,12 @@
 -- Assumes nothing.
 use Prim.Native.Nat.{ℕ, zero, suc, _+_, _*_, _≤_, _<_, max}
 use mathlib.Core.Path.{_≡_, refl, sym, ap, ap₂, subst, _∙_, fun-ext}
+use mathlib.Core.Logic.{_≢_}
 use mathlib.Core.Bool.{Bool, true, false}
 use mathlib.Core.List.{List, [], _∷_}
 use native.Mathlib.Omega.{arith}
 use lib.Dec.{lit≤, eqb, ltb}
-use borrow.Author.Tests.{ltb-true, ltb-false}
+use borrow.Author.Tests.{ltb-true, ltb-false, eqb-true, eqb-false, ne-eqb}
 use lib.IntN.{ℤ, pos, natAbs}
 use lib.ListN.{getD, replicate, getD-replicate, List·getD-eq-default}
 use Rattle.laws.specs.Choice.{if_then_else_}
@@ -24,8 +25,10 @@ use Rattle.sbc_quantizer.specs.Quantizing.{scaleFactor}
 use Rattle.sbc_quantizer.proofs.Factors.{scale-factor-le}
 use Rattle.sbc_frame.specs.Encoding.{sampleAt, factorOf, joinedAt, plainCost, joinedCost, isJoined, codedAt}
 use Rattle.sbc_frame.specs.Arrays.{sampleIn, entry}
-use Rattle.sbc_code.specs.Coding.{CodingRows, CodingIn, ChannelsIn}
-use Rattle.sbc_join.specs.Joining.{factorsIn, halfSums, halfDifferences, joinRow, pickedRow}
+use Rattle.sbc_join.specs.Joining.{factorsIn, halfSums, halfDifferences, joinRow, pickedRow, pickedSamples}
+use Rattle.sbc_join.proofs.Picked.{picked-sample}
+use Rattle.sbc_code.specs.declared.Coding.{Coding}
+use Rattle.sbc_code.specs.Coding.{plainCoding, joinFlags, jointCoding, codingOf, CodingRows, CodingIn, ChannelsIn}
 use Rattle.sbc_frame.proofs.Sizes.{joins-two}
 use Rattle.sbc_frame.proofs.Coding.{none-joined, coded-alone}
 
@@ -66,7 +69,7 @@ digit-small true = lit≤ tt
 digit-small false = lit≤ tt
 
 -- rows of eight: flags of one bit and scale factors of four
-pub plain-rows : (n : ℕ) (l r : List ℤ) → CodingRows (replicate 8 0) (factorsIn n l) (factorsIn n r)
+plain-rows : (n : ℕ) (l r : List ℤ) → CodingRows (replicate 8 0) (factorsIn n l) (factorsIn n r)
 unfolding factorsIn
 plain-rows n l r = (
   length-build 8 _,
@@ -83,7 +86,7 @@ plain-rows n l r = (
     go s true e = rw (getD-replicate {A = ℕ} 8 s 0 0 (ltb-true s 8 e)) (lit≤ tt)
     go s false e = rw (List·getD-eq-default zeros 0 (ltb-false s 8 e)) (lit≤ tt)
 
-pub joint-rows : (n S : ℕ) (l r a b : List ℤ)
+joint-rows : (n S : ℕ) (l r a b : List ℤ)
     → let flags = joinRow S (factorsIn n l) (factorsIn n r) (factorsIn n a) (factorsIn n b) in
     CodingRows flags (pickedRow flags (factorsIn n l) (factorsIn n a)) (pickedRow flags (factorsIn n r) (factorsIn n b))
 unfolding joinRow pickedRow
@@ -133,7 +136,7 @@ module _ (p : SbcParameters) (a : accepted p ≡ true) (samples : ℕ → List (
 
   -- ---- no subband is joined
   -- the channels as they are
-  pub plain-coding : joinCount p ≡ 0 → CodingIn p samples (replicate 8 0) (factorsIn (p .blocks) l) (factorsIn (p .blocks) r) l r
+  plain-coding : joinCount p ≡ 0 → CodingIn p samples (replicate 8 0) (factorsIn (p .blocks) l) (factorsIn (p .blocks) r) l r
   unfolding digit
   plain-coding none =
       let plain = unjoint p a none in
@@ -156,7 +159,7 @@ module _ (p : SbcParameters) (a : accepted p ≡ true) (samples : ℕ → List (
     joinedRow c = getD (factorsIn (p .blocks) sums ∷ factorsIn (p .blocks) differences ∷ []) c []
 
     abbrev flags : List ℕ
-    flags = joinRow (p .subbands) (plainRow 0) (plainRow 1) (joinedRow 0) (joinedRow 1)
+    flags = joinFlags p l r
 
     -- there are two channels
     two : channels p ≡ 2
@@ -215,17 +218,18 @@ module _ (p : SbcParameters) (a : accepted p ≡ true) (samples : ℕ → List (
     coded-sample b c s hb hc hs = rw (flag-tells s hs, joined-sample b c s hb hc hs, given c hc b s hb hs)
 
     -- what the flags choose
-    pub joint-coding : (left right : List ℤ)
-        → ((b s : ℕ) → b < p .blocks → s < 8 → sampleIn left b s ≡ (if eqb (entry flags s) 1 then sampleIn sums b s else sampleIn l b s))
-        → ((b s : ℕ) → b < p .blocks → s < 8 → sampleIn right b s ≡ (if eqb (entry flags s) 1 then sampleIn differences b s else sampleIn r b s))
-        → CodingIn p samples flags (pickedRow flags (plainRow 0) (joinedRow 0)) (pickedRow flags (plainRow 1) (joinedRow 1)) left right
-    joint-coding left right hl hr =
+    joint-coding : let k = jointCoding p l r in CodingIn p samples (k .flags) (k .«left_factors») (k .«right_factors») (k .left) (k .right)
+    unfolding jointCoding
+    joint-coding =
         record {
           flag-is = flag-at;
           factor-is = factor;
           sample-is = sample;
         }
       where
+        few : p .blocks ≤ 16
+        few = ranges p a .blocks-high
+
         factor : (c s : ℕ) → c < channels p → s < 8
             → entry (getD (pickedRow flags (plainRow 0) (joinedRow 0) ∷ pickedRow flags (plainRow 1) (joinedRow 1) ∷ []) c []) s
             ≡ factorOf p (λ b. codedAt p samples b c s)
@@ -233,46 +237,60 @@ module _ (p : SbcParameters) (a : accepted p ≡ true) (samples : ℕ → List (
         factor (suc zero) s hc hs = coded-factor 1 s hc hs
         factor (suc (suc c)) s hc hs = absurd (omega (arith, two))
 
-        sample : (b c s : ℕ) → b < p .blocks → c < channels p → s < 8 → sampleIn (getD (left ∷ right ∷ []) c []) b s ≡ codedAt p samples b c s
-        sample b zero s hb hc hs = hl b s hb hs ∙ coded-sample b 0 s hb hc hs
-        sample b (suc zero) s hb hc hs = hr b s hb hs ∙ coded-sample b 1 s hb hc hs
+        sample : (b c s : ℕ) → b < p .blocks → c < channels p → s < 8
+            → sampleIn (getD (pickedSamples (p .blocks) flags l sums ∷ pickedSamples (p .blocks) flags r differences ∷ []) c []) b s
+            ≡ codedAt p samples b c s
+        sample b zero s hb hc hs = picked-sample (p .blocks) flags l sums b s hb few hs ∙ coded-sample b 0 s hb hc hs
+        sample b (suc zero) s hb hc hs = picked-sample (p .blocks) flags r differences b s hb few hs ∙ coded-sample b 1 s hb hc hs
         sample b (suc (suc c)) s hb hc hs = absurd (omega (arith, two))
 
--- ---- a frame whose subbands may be joined, as the code has it: each row and array by those before it
-pub record Joint (p : SbcParameters) (l r sums differences : List ℤ) (plain-left plain-right joined-left joined-right flags lf rf : List ℕ)
-    (left right : List ℤ) : Type 0 where
-  pub sums-are : sums ≡ halfSums l r
-  pub differences-are : differences ≡ halfDifferences l r
-  pub plain-left-is : plain-left ≡ factorsIn (p .blocks) l
-  pub plain-right-is : plain-right ≡ factorsIn (p .blocks) r
-  pub joined-left-is : joined-left ≡ factorsIn (p .blocks) sums
-  pub joined-right-is : joined-right ≡ factorsIn (p .blocks) differences
-  pub flags-are : flags ≡ joinRow (p .subbands) plain-left plain-right joined-left joined-right
-  pub left-factors-are : lf ≡ pickedRow flags plain-left joined-left
-  pub right-factors-are : rf ≡ pickedRow flags plain-right joined-right
-  pub left-is : (b s : ℕ) → b < p .blocks → s < 8 → sampleIn left b s ≡ (if eqb (entry flags s) 1 then sampleIn sums b s else sampleIn l b s)
-  pub right-is : (b s : ℕ) → b < p .blocks → s < 8
-      → sampleIn right b s ≡ (if eqb (entry flags s) 1 then sampleIn differences b s else sampleIn r b s)
+-- ---- what is coded of a frame
+-- rows of eight: flags of one bit and scale factors of four
+pub coding-rows : (p : SbcParameters) (l r : List ℤ)
+    → let k = codingOf p l r in CodingRows (k .flags) (k .«left_factors») (k .«right_factors»)
+unfolding codingOf plainCoding jointCoding
+coding-rows p l r =
+    by-test (λ (k : Coding). CodingRows (k .flags) (k .«left_factors») (k .«right_factors»)) (eqb (joinCount p) 0) (plainCoding p l r) (jointCoding p l r)
+    (λ _. plain-rows (p .blocks) l r) (λ _. joint-rows (p .blocks) (p .subbands) l r (halfSums l r) (halfDifferences l r))
 
--- is what is coded of it
-pub joint-is : {p : SbcParameters} {l r sums differences : List ℤ} {plain-left plain-right joined-left joined-right flags lf rf : List ℕ}
-    {left right : List ℤ} → accepted p ≡ true → 0 < joinCount p
-    → Joint p l r sums differences plain-left plain-right joined-left joined-right flags lf rf left right
-    → (CodingRows flags lf rf) × ((samples : ℕ → List (List ℤ)) → ChannelsIn p samples l r → CodingIn p samples flags lf rf left right)
-joint-is a some j =
-    rw (
-      j .left-factors-are,
-      j .right-factors-are,
-      j .flags-are,
-      j .plain-left-is,
-      j .plain-right-is,
-      j .joined-left-is,
-      j .joined-right-is,
-      j .sums-are,
-      j .differences-are,
-    ) (
-      joint-rows _ _ _ _ _ _,
-      λ samples given. joint-coding _ a samples _ _ given some _ _
-          (rw (j .flags-are, j .plain-left-is, j .plain-right-is, j .joined-left-is, j .joined-right-is, j .sums-are, j .differences-are) at (j .left-is))
-          (rw (j .flags-are, j .plain-left-is, j .plain-right-is, j .joined-left-is, j .joined-right-is, j .sums-are, j .differences-are) at (j .right-is)),
-    )
+-- and what `codedAt` says
+pub coding-in : (p : SbcParameters) → accepted p ≡ true → (samples : ℕ → List (List ℤ)) (l r : List ℤ) → ChannelsIn p samples l r
+    → let k = codingOf p l r in CodingIn p samples (k .flags) (k .«left_factors») (k .«right_factors») (k .left) (k .right)
+unfolding codingOf plainCoding
+coding-in p a samples l r given =
+    by-test (λ (k : Coding). CodingIn p samples (k .flags) (k .«left_factors») (k .«right_factors») (k .left) (k .right)) (eqb (joinCount p) 0)
+    (plainCoding p l r) (jointCoding p l r) (λ e. plain-coding p a samples l r given (eqb-true (joinCount p) 0 e))
+    (λ e. joint-coding p a samples l r given (let ne = eqb-false (joinCount p) 0 e in omega arith))
+
+-- ---- the code's choice
+pub coding-plain : (p : SbcParameters) (l r : List ℤ) → joinCount p ≡ 0 → plainCoding p l r ≡ codingOf p l r
+unfolding codingOf
+coding-plain p l r e = sym (rw e)
+
+pub coding-joint : (p : SbcParameters) (l r : List ℤ) → joinCount p ≢ 0 → jointCoding p l r ≡ codingOf p l r
+unfolding codingOf
+coding-joint p l r ne = sym (rw (ne-eqb (joinCount p) 0 ne))
+
+-- a coding from its parts
+abbrev codingFrom : List ℕ → List ℕ → List ℕ → List ℤ → List ℤ → Coding
+codingFrom flags left-factors right-factors left right =
+    record { flags = flags; «left_factors» = left-factors; «right_factors» = right-factors; left = left; right = right }
+
+-- a frame whose subbands may be joined, as the code has it: each row and array by those before it
+module _ (p : SbcParameters) (l r : List ℤ) {sums differences left right : List ℤ}
+    {plain-left plain-right joined-left joined-right flags left-factors right-factors : List ℕ} where
+  pub joint-is : sums ≡ halfSums l r → differences ≡ halfDifferences l r
+      → plain-left ≡ factorsIn (p .blocks) l → plain-right ≡ factorsIn (p .blocks) r
+      → joined-left ≡ factorsIn (p .blocks) sums → joined-right ≡ factorsIn (p .blocks) differences
+      → flags ≡ joinRow (p .subbands) plain-left plain-right joined-left joined-right
+      → left-factors ≡ pickedRow flags plain-left joined-left → right-factors ≡ pickedRow flags plain-right joined-right
+      → left ≡ pickedSamples (p .blocks) flags l sums → right ≡ pickedSamples (p .blocks) flags r differences
+      → codingFrom flags left-factors right-factors left right ≡ jointCoding p l r
+  unfolding jointCoding
+  joint-is s d pl pr jl jr f lf rf ls rs =
+      let sl : joined-left ≡ factorsIn (p .blocks) (halfSums l r) = jl ∙ ap (factorsIn (p .blocks)) s in
+      let dr : joined-right ≡ factorsIn (p .blocks) (halfDifferences l r) = jr ∙ ap (factorsIn (p .blocks)) d in
+      let e : flags ≡ joinFlags p l r = f ∙ (λ i. joinRow (p .subbands) (pl i) (pr i) (sl i) (dr i)) in
+      (λ i. codingFrom flags (lf i) (rf i) (ls i) (rs i))
+      ∙ (λ i. codingFrom (e i) (pickedRow (e i) (pl i) (sl i)) (pickedRow (e i) (pr i) (dr i)) (pickedSamples (p .blocks) (e i) l (s i))
+      (pickedSamples (p .blocks) (e i) r (d i)))

@@ -8,13 +8,9 @@ use sbc_join::pick_samples;
 use sbc_parameters::SbcParameters;
 ghost use mathlib.Core.Path.{_≡_};
 ghost use mathlib.Core.Bool.{true};
-ghost use mathlib.Core.List.{List};
-ghost use Prim.Native.Nat.{ℕ, _<_};
 ghost use lib.ListN.{length};
-ghost use lib.IntN.{ℤ};
 ghost use Rattle.sbc_parameters.specs.Parameters.{accepted};
-ghost use Rattle.sbc_parameters.specs.Sizes.{joinCount};
-ghost use Rattle.sbc_code.specs.Coding.{ChannelsIn, CodingRows, CodingIn};
+ghost use Rattle.sbc_code.specs.Coding.{plainCoding, jointCoding, codingOf};
 
 // What is coded of a frame: join flags, scale factors and samples; rows of eight, and eight places a block.
 pub struct Coding {
@@ -27,9 +23,8 @@ pub struct Coding {
 
 // The channels as they are.
 fn code_plain(parameters: SbcParameters, left: &[i32; 128], right: &[i32; 128]) -> Coding
-    requires { ⌜ (accepted parameters ≡ true) × (joinCount parameters ≡ 0) ⌝ }
-    ensures rows { λ r. ⌜ CodingRows (r .flags) (r .«left_factors») (r .«right_factors») ⌝ }
-    ensures coding { λ r. ⌜ ((samples : ℕ → List (List ℤ)) → ChannelsIn parameters samples (now (left .entry)) (now (right .entry)) → CodingIn parameters samples (r .flags) (r .«left_factors») (r .«right_factors») (r .left) (r .right)) ⌝ }
+    requires { ⌜ accepted parameters ≡ true ⌝ }
+    ensures { λ r. ⌜ r ≡ plainCoding parameters (now (left .entry)) (now (right .entry)) ⌝ }
 {
     let blocks = parameters.blocks as usize;
     Coding {
@@ -43,9 +38,8 @@ fn code_plain(parameters: SbcParameters, left: &[i32; 128], right: &[i32; 128]) 
 
 // Sum and difference in place of the channels where that takes smaller scale factors.
 fn code_joint(parameters: SbcParameters, left: &[i32; 128], right: &[i32; 128]) -> Coding
-    requires { ⌜ (accepted parameters ≡ true) × (0 < joinCount parameters) × (length (now left) ≡ 128) × (length (now right) ≡ 128) ⌝ }
-    ensures rows { λ r. ⌜ CodingRows (r .flags) (r .«left_factors») (r .«right_factors») ⌝ }
-    ensures coding { λ r. ⌜ ((samples : ℕ → List (List ℤ)) → ChannelsIn parameters samples (now (left .entry)) (now (right .entry)) → CodingIn parameters samples (r .flags) (r .«left_factors») (r .«right_factors») (r .left) (r .right)) ⌝ }
+    requires { ⌜ (accepted parameters ≡ true) × (length (now left) ≡ 128) × (length (now right) ≡ 128) ⌝ }
+    ensures { λ r. ⌜ r ≡ jointCoding parameters (now (left .entry)) (now (right .entry)) ⌝ }
 {
     let blocks = parameters.blocks as usize;
     let sums = half_sums(left, right);
@@ -77,8 +71,7 @@ fn code_joint(parameters: SbcParameters, left: &[i32; 128], right: &[i32; 128]) 
 // What is coded of a frame whose channels have these samples.
 pub fn code(parameters: SbcParameters, left: &[i32; 128], right: &[i32; 128]) -> Coding
     requires { ⌜ (accepted parameters ≡ true) × (length (now left) ≡ 128) × (length (now right) ≡ 128) ⌝ }
-    ensures rows { λ r. ⌜ CodingRows (r .flags) (r .«left_factors») (r .«right_factors») ⌝ }
-    ensures coding { λ r. ⌜ ((samples : ℕ → List (List ℤ)) → ChannelsIn parameters samples (now (left .entry)) (now (right .entry)) → CodingIn parameters samples (r .flags) (r .«left_factors») (r .«right_factors») (r .left) (r .right)) ⌝ }
+    ensures { λ r. ⌜ r ≡ codingOf parameters (now (left .entry)) (now (right .entry)) ⌝ }
 {
     if parameters.join_count() == 0 {
         return code_plain(parameters, left, right);

@@ -2,7 +2,7 @@
 -- the code are the bits of the body.
 -- Assumes nothing.
 use Prim.Native.Nat.{ℕ, zero, suc, _-_, _*_, _≤_, _<_}
-use mathlib.Core.Path.{_≡_, refl, sym, ap, ap₂, _∙_}
+use mathlib.Core.Path.{_≡_, refl, sym, ap, ap₂, subst, _∙_}
 use mathlib.Core.Logic.{_⊎_, inl, inr}
 use mathlib.Core.Bool.{Bool, true, false}
 use mathlib.Core.List.{List, [], _∷_, _++_, append-assoc, append-nil}
@@ -29,7 +29,9 @@ use Rattle.sbc_frame.specs.Layout.{flagBits, channelFactorBits, factorBits, cha
 use Rattle.sbc_frame.specs.Channels.{pcmIn, channelPcm, analyzeBlocks, analysisAfter}
 use Rattle.sbc_frame.specs.Encoding.{sampleAt, channelSamples, factorOf, isJoined, codedAt, codedFactors, codedValues, codedFields, analysisHistories}
 use Rattle.sbc_frame.specs.Arrays.{entry, sampleIn, samplesArray}
-use Rattle.sbc_code.specs.Coding.{ChannelsIn, CodingIn}
+use Rattle.sbc_code.specs.declared.Coding.{Coding}
+use Rattle.sbc_code.specs.Coding.{codingOf, ChannelsIn, CodingRows, CodingIn}
+use Rattle.sbc_code.proofs.Chosen.{coding-rows, coding-in}
 use Rattle.sbc_write.specs.Writing.{rowBits, blockBitsOf, valueBitsOf}
 use Rattle.sbc_write_frame.specs.Framing.{codingBits, codingBytes}
 use Rattle.sbc_frame.proofs.Widths.{Enough, allocate-agree, table-width, width-none, width-absent}
@@ -216,12 +218,25 @@ module _ (p : SbcParameters) (a : accepted p ≡ true) (samples : ℕ → List (
       (sym (append-assoc (rowBits lf 4 (p .subbands)) (rowBits rf 4 (p .subbands * (channels p - 1))) _)
       ∙ ap₂ {C = List Bool} (λ xs ys. xs ++ ys) factors-packed values-packed)
 
-  pub frame-packed : codingBytes p flags lf rf left right ≡ pack p fields
+  frame-packed : codingBytes p flags lf rf left right ≡ pack p fields
   unfolding codingBytes pack body
   frame-packed =
       ap (λ (bits : List Bool).
       let rest = filled (frameLength p - 4) bits in
       header p ++ (checksum (header p ++ (0 ∷ rest)) (sideBits p) ∷ rest)) bits-packed
+
+-- ---- what is coded of two channels' samples
+-- rows of eight, with flags of one bit and scale factors of four
+pub rows-kept : (p : SbcParameters) (l r : List ℤ) {k : Coding} → k ≡ codingOf p l r → CodingRows (k .flags) (k .«left_factors») (k .«right_factors»)
+rows-kept p l r e = subst (λ (k : Coding). CodingRows (k .flags) (k .«left_factors») (k .«right_factors»)) (sym e) (coding-rows p l r)
+
+-- its bytes are the frame
+pub coding-packed : (p : SbcParameters) → accepted p ≡ true → (samples : ℕ → List (List ℤ)) (l r : List ℤ) → ChannelsIn p samples l r
+    → (k : Coding) → k ≡ codingOf p l r
+    → codingBytes p (k .flags) (k .«left_factors») (k .«right_factors») (k .left) (k .right) ≡ pack p (codedFields p samples)
+coding-packed p a samples l r given k e =
+    ap (λ (k : Coding). codingBytes p (k .flags) (k .«left_factors») (k .«right_factors») (k .left) (k .right)) e
+    ∙ (let rows = coding-rows p l r in frame-packed p a samples _ _ _ _ _ (coding-in p a samples l r given) (rows .0) (rows .1))
 
 -- ---- a frame from PCM: the two channels' histories and samples, where C is the number of channels
 module _ (p : SbcParameters) (C : ℕ) (e : C ≡ channels p) (l r input : List ℤ) where

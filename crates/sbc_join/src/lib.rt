@@ -3,14 +3,12 @@ use laws::greater;
 use sbc_quantizer::scale_factor;
 ghost use mathlib.Core.Path.{_≡_};
 ghost use Prim.Native.Nat.{ℕ, _+_, _≤_, _<_, max};
-ghost use lib.Dec.{eqb};
 ghost use lib.ListN.{length, getD};
 ghost use lib.IntN.{natAbs};
-ghost use Rattle.laws.specs.Choice.{if_then_else_};
 ghost use Rattle.laws.specs.Lists.{build};
 ghost use Rattle.laws.specs.Bits.{digit};
 ghost use Rattle.sbc_frame.specs.Arrays.{sampleIn, entry, withSubband};
-ghost use Rattle.sbc_join.specs.Joining.{maximaIn, factorsIn, halfSums, halfDifferences, joinRow, pickedRow};
+ghost use Rattle.sbc_join.specs.Joining.{maximaIn, factorsIn, halfSums, halfDifferences, joinRow, pickedRow, pickedSamples};
 
 // The absolute value.
 fn magnitude(x: i32) -> u32
@@ -130,7 +128,7 @@ fn pick_subband(samples: &mut [i32; 128], joined: &[i32; 128], subband: usize, b
 // The joined samples where a flag is set.
 pub fn pick_samples(samples: &mut [i32; 128], joined: &[i32; 128], flags: &[u8; 8], blocks: usize)
     requires { ⌜ (length (now samples) ≡ 128) × (blocks ≤ 16) ⌝ }
-    ensures { λ _. ⌜ (length (now (samples .exit)) ≡ 128) × ((b s : ℕ) → b < blocks → s < 8 → sampleIn (now (samples .exit)) b s ≡ (if eqb (entry (now (flags .entry)) s) 1 then sampleIn (now (joined .entry)) b s else sampleIn (now (samples .entry)) b s)) ⌝ }
+    ensures { λ _. ⌜ now (samples .exit) ≡ pickedSamples blocks (now (flags .entry)) (now (samples .entry)) (now (joined .entry)) ⌝ }
 {
     for subband in 0..8 {
         if flags[subband] == 1 {

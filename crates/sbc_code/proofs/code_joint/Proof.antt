@@ -1,4 +1,4 @@
--- `sbc_code::code_joint` meets its contract: what it has in the end is `Joint`.
+-- `sbc_code::code_joint` meets its contract: each part of what it gives back is that of `jointCoding`.
 -- Assumes nothing.
 use Prim.Native.Nat.{_≤_}
 use native.Mathlib.Omega.{arith}
@@ -53,12 +53,12 @@ join-flags-requires c κs =
 pick-samples-requires : tie.Need-pick-samples-requires
 pick-samples-requires c κs =
     let after-factors = c .before .before .before .before .before .before .before .before .before .before .before in
-    let s = after-factors .before .before .before .before .before .before .before .before .before in (s .pre .2, few s)
+    let s = after-factors .before .before .before .before .before .before .before .before .before in (s .pre .1, few s)
 
 pick-samples-requires-2 : tie.Need-pick-samples-requires-2
 pick-samples-requires-2 c κs =
     let after-factors = c .before .before .before .before .before .before .before .before .before .before .before .before .before .before .before in
-    let s = after-factors .before .before .before .before .before .before .before .before .before in (s .pre .3, few s)
+    let s = after-factors .before .before .before .before .before .before .before .before .before in (s .pre .2, few s)
 
 pick-row-requires : tie.Need-pick-row-requires
 pick-row-requires c κs = search needs
@@ -75,20 +75,10 @@ returns c =
     let after-plain = after-factors .before .before .before .before in
     let after-sums = after-plain .before .before .before in
     let s = after-sums .before .before in
-    joint-is (s .pre .0) (s .pre .1)
-    (record {
-      sums-are = after-sums .half-sums .ensures;
-      differences-are = after-plain .before .before .half-differences .ensures;
-      plain-left-is = after-plain .before .factors-of .ensures;
-      plain-right-is = after-plain .factors-of2 .ensures;
-      joined-left-is = after-factors .before .before .factors-of3 .ensures;
-      joined-right-is = after-factors .factors-of4 .ensures;
-      flags-are = after-flags .join-flags .ensures;
-      left-factors-are = c .before .before .before .before .pick-row .ensures;
-      right-factors-are = c .pick-row2 .ensures;
-      left-is = after-left .pick-samples .ensures .1;
-      right-is = after-right .pick-samples2 .ensures .1;
-    })
+    joint-is (s .args .parameters) (s .args .left .now) (s .args .right .now) (after-sums .half-sums .ensures) (after-plain .before .before .half-differences .ensures)
+    (after-plain .before .factors-of .ensures) (after-plain .factors-of2 .ensures) (after-factors .before .before .factors-of3 .ensures)
+    (after-factors .factors-of4 .ensures) (after-flags .join-flags .ensures) (c .before .before .before .before .pick-row .ensures)
+    (c .pick-row2 .ensures) (after-left .pick-samples .ensures) (after-right .pick-samples2 .ensures)
 
 pub code-joint-spec : {M : Type 1} → statement M
 code-joint-spec =

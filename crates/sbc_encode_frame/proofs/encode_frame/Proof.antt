@@ -9,7 +9,7 @@ use Rattle.sbc_parameters.proofs.Accepted.{channels-range, ranges}
 use Rattle.sbc_frame.specs.Encoding.{channelSamples, encodeFields}
 use Rattle.sbc_frame.proofs.Columns.{length-array}
 use Rattle.sbc_frame.proofs.Blocks.{asked}
-use Rattle.sbc_encode_frame.proofs.Packed.{frame-packed, histories-analyzed, channels-analyzed}
+use Rattle.sbc_encode_frame.proofs.Packed.{rows-kept, coding-packed, histories-analyzed, channels-analyzed}
 use borrow.Author.Needs.{needs}
 use Rattle.sbc_encode_frame.proofs.encode_frame.Statement.{statement}
 use Rattle.sbc_encode_frame.proofs.encode_frame.Tie as tie
@@ -47,7 +47,7 @@ code-requires c κs =
 write-frame-requires : tie.Need-write-frame-requires
 write-frame-requires c κs =
     let s = c .before .before .before .before .before .before .before .before .before .before .before .before .before .before .before .before .before .before .before .before .before .before in
-    let k = c .before .before .before .before .before .before .before .before .before .before .before .code .ensures .0 in
+    let k = rows-kept _ _ _ (c .before .before .before .before .before .before .before .before .before .before .before .code .ensures) in
     (s .pre .0, s .pre .2, k .0, k .1, k .2, k .3, k .4)
 
 same-length : tie.Need-same-length
@@ -69,8 +69,7 @@ returns c =
     let samples = channels-analyzed p C e l r input (ranges p (s .pre .0) .blocks-high) (first .result) (second .result) (first .ensures .1) (second .ensures .1 .0) in (
       histories-analyzed p C e l r input (first .last .0) (second .last .0) (first .ensures .0) (second .ensures .0),
       c .before .before .write-frame .ensures
-          ∙ frame-packed p (s .pre .0) (channelSamples p (l ∷ r ∷ []) input) _ _ _ _ _ (coding .ensures .1 (channelSamples p (l ∷ r ∷ []) input) samples)
-          (coding .ensures .0 .0) (coding .ensures .0 .1),
+          ∙ coding-packed p (s .pre .0) (channelSamples p (l ∷ r ∷ []) input) (first .result) (second .result) samples (coding .result) (coding .ensures),
     )
 
 pub encode-frame-spec : {M : Type 1} → statement M
