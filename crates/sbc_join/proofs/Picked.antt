@@ -101,10 +101,6 @@ module _ (n : ℕ) (flags : List ℕ) (plain joined : List ℤ) where
       go k (yes here) = let c : eqb (entry flags (k % 8)) 1 ≡ false = rw here clear in unset m k c ∙ sym (unset (m + 1) k c)
       go k (no ne) = passed-next m k ne
 
-  pub length-picked : length (pickedSamples n flags plain joined) ≡ 128
-  unfolding pickedSamples
-  length-picked = length-build 128 _
-
   -- a sample of the first n blocks
   pub picked-sample : (b s : ℕ) → b < n → n ≤ 16 → s < 8
       → sampleIn (pickedSamples n flags plain joined) b s ≡ (if eqb (entry flags s) 1 then sampleIn joined b s else sampleIn plain b s)
