@@ -1,13 +1,13 @@
 -- What the code reads of a received frame, in rows of eight and by running positions, is what `unpack` reads, and it is small.
 -- Assumes nothing.
 use Prim.Native.Nat.{ℕ, zero, suc, _+_, _-_, _*_, _%_, _^_, _≤_, _<_}
-use mathlib.Core.Path.{_≡_, refl, sym, ap, ap₂, _∙_}
+use mathlib.Core.Path.{_≡_, refl, sym, ap, ap₂, _∙_, subst}
 use mathlib.Core.Bool.{Bool, true, false, false≢true}
 use mathlib.Core.List.{List, [], _∷_, _++_}
 use native.Mathlib.Nat.{suc-mul, mul-le-mul-right}
 use native.Mathlib.Omega.{arith}
 use lib.Dec.{eqb, ltb}
-use lib.IntN.{ℤ, natAbs, _+ℤ_, _-ℤ_}
+use lib.IntN.{ℤ, pos, natAbs, _+ℤ_, _-ℤ_}
 use lib.ListN.{length, getD, replicate, length-append, length-replicate}
 use borrow.Author.Tests.{ltb-true, ltb-false, lt-ltb, le-ltb}
 use Rattle.laws.specs.Choice.{if_then_else_}
@@ -29,13 +29,16 @@ use Rattle.sbc_allocation.proofs.Rows.{table-16}
 use Rattle.sbc_quantizer.proofs.Steps.{reconstruct-bound}
 use Rattle.sbc_frame.specs.Fields.{joinAt, factorAt, valueAt, widthAt, channelWidth}
 use Rattle.sbc_frame.specs.Layout.{factorPosition, valuePosition, readJoin, readFactors, unpack}
+use Rattle.sbc_frame.specs.Encoding.{sampleAt}
 use Rattle.sbc_frame.specs.Decoding.{reconstructedAt, decodedAt}
-use Rattle.sbc_frame.specs.Arrays.{below, sampleIn, entry, Small}
-use Rattle.sbc_read.specs.Reading.{rowAt, flagRow, leftFactors, rightFactors, valueOf, ChannelIn, FrameIn}
+use Rattle.sbc_frame.specs.Arrays.{below, sampleIn, SamplesIn, samplesArray, entry, Small}
+use Rattle.sbc_read.specs.Reading.{rowAt, flagRow, leftFactors, rightFactors, valueOf, channelValues, withFlagged, channelArray}
 use Rattle.sbc_frame.proofs.Sizes.{joins-two, joins-le, row-sizes}
-use Rattle.sbc_frame.proofs.Widths.{Enough, rows-enough, block-width, allocate-agree, table-width, row-width, rows-width}
+use Rattle.sbc_frame.proofs.Widths.{Enough, rows-enough, block-width, allocate-agree, table-width, width-none, width-absent, row-width, rows-width}
 use Rattle.sbc_frame.proofs.Positions.{flags-inside, factor-inside, value-inside, frame-room}
 use Rattle.sbc_frame.proofs.Reading.{enough-factors, read-value}
+use Rattle.sbc_frame.proofs.Columns.{array-behind}
+use Rattle.sbc_read.proofs.Arrays.{channelValue, value-none, channelRead, values-in, length-flagged, flagged-in, flagged-zero, channelRows, rows-there, rows-absent, rows-behind, channel-is}
 
 -- ---- rows of eight
 module _ (bytes : List ℕ) (position width count : ℕ) where
@@ -203,81 +206,154 @@ module _ (p : SbcParameters) (a : accepted p ≡ true) (frame : List ℕ) (long 
             (λ i hi. width-is c i (omega (arith, channels-range p .1)) (omega arith)),
       )
 
-  module _ (c : ℕ) (xs : List ℤ) (read : ChannelIn bytesOf (widthRow c) (getD factorRows c []) (start c) (blockBits p) (p .blocks) xs) where
-    -- what is read of a channel is what is reconstructed
-    pub sample-is : (b s : ℕ) → b < p .blocks → c < channels p → s < p .subbands → sampleIn xs b s ≡ reconstructedAt p (unpack p frame) b c s
-    unfolding valueOf reconstructedAt unpack
-    sample-is b s hb hc hs =
-        let factors : List (List ℕ) = readFactors p frame in
-        let two : c < 2 = omega (arith, channels-range p .1) in
-        let eight : s < 8 = omega (arith, ranges p a .subbands-high) in
-        let w : entry (widthRow c) s ≡ widthAt p factors c s = width-is c s two eight in
-        let f : entry (getD factorRows c []) s ≡ factorAt (unpack p frame) c s = factor-is c s hc hs in
-        let q : numberAt bytesOf (start c + total s (entry (widthRow c)) + b * blockBits p) (entry (widthRow c) s) ≡ valueAt (unpack p frame) b c s =
-        ap₂ (λ (n k : ℕ). numberAt bytesOf n k) (place-is b c s hc hs) w
-        ∙ number-inside (valuePosition p factors b c s) (widthAt p factors c s)
-        (value-inside p a factors (enough-factors p frame) b c s hb hc hs)
-        ∙ sym (read-value p frame factors b c s hb hc hs) in
-        read b s hb eight ∙ rw (q, f, w)
+  -- the array of what is read of a channel
+  abbrev readArray : ℕ → List ℤ
+  readArray c = samplesArray (p .blocks) (channelRead bytesOf (widthRow c) (getD factorRows c []) (start c) (blockBits p) (p .blocks))
 
-    -- and small
-    pub sample-small : ((s : ℕ) → entry (getD factorRows c []) s ≤ 15) → Small (p .blocks) (2 ^ 27) xs
-    unfolding valueOf
-    sample-small fs b s hb hs =
-        rw (read b s hb hs)
-        (reconstruct-bound _ (entry (getD factorRows c []) s) (entry (widthRow c) s) (number-at-lt bytesOf _ (entry (widthRow c) s)) (fs s))
+  read-in : (b c s : ℕ) → b < p .blocks → s < 8
+      → sampleIn (readArray c) b s ≡ channelValue bytesOf (widthRow c) (getD factorRows c []) (start c) (blockBits p) (p .blocks) b s
+  read-in b c s hb hs =
+      values-in bytesOf (widthRow c) (getD factorRows c []) (start c) (blockBits p) (p .blocks) (readArray c) (ranges p a .blocks-high) refl b s hb hs
+
+  -- it is what is reconstructed
+  sample-is : (b c s : ℕ) → b < p .blocks → c < channels p → s < p .subbands → sampleIn (readArray c) b s ≡ reconstructedAt p (unpack p frame) b c s
+  unfolding valueOf reconstructedAt unpack
+  sample-is b c s hb hc hs =
+      let factors : List (List ℕ) = readFactors p frame in
+      let two : c < 2 = omega (arith, channels-range p .1) in
+      let eight : s < 8 = omega (arith, ranges p a .subbands-high) in
+      let w : entry (widthRow c) s ≡ widthAt p factors c s = width-is c s two eight in
+      let f : entry (getD factorRows c []) s ≡ factorAt (unpack p frame) c s = factor-is c s hc hs in
+      let q : numberAt bytesOf (start c + total s (entry (widthRow c)) + b * blockBits p) (entry (widthRow c) s) ≡ valueAt (unpack p frame) b c s =
+      ap₂ (λ (n k : ℕ). numberAt bytesOf n k) (place-is b c s hc hs) w
+      ∙ number-inside (valuePosition p factors b c s) (widthAt p factors c s)
+      (value-inside p a factors (enough-factors p frame) b c s hb hc hs)
+      ∙ sym (read-value p frame factors b c s hb hc hs) in
+      read-in b c s hb eight ∙ rw (q, f, w)
+
+  -- 0 where there is no such channel or no such subband: the width there is 0
+  sample-none : (b c s : ℕ) → b < p .blocks → c < 2 → s < 8 → (c < channels p → p .subbands ≤ s) → sampleIn (readArray c) b s ≡ pos 0
+  sample-none b c s hb hc hs out =
+      read-in b c s hb hs
+      ∙ value-none bytesOf (widthRow c) (getD factorRows c []) (start c) (blockBits p) (p .blocks) b s
+      (table-width p a factorRows enough-rows c s hc hs ∙ go (ltb c (channels p)) refl)
+    where
+      go : (t : Bool) → ltb c (channels p) ≡ t → widthAt p factorRows c s ≡ 0
+      go true e = let h = ltb-true c (channels p) e in width-none p a factorRows enough-rows c s h (out h)
+      go false e = width-absent p a factorRows enough-rows c s (ltb-false c (channels p) e)
+
+  -- and small
+  sample-small : (c : ℕ) → ((s : ℕ) → entry (getD factorRows c []) s ≤ 15) → Small (p .blocks) (2 ^ 27) (readArray c)
+  unfolding valueOf
+  sample-small c fs b s hb hs =
+      rw (read-in b c s hb hs)
+      (reconstruct-bound _ (entry (getD factorRows c []) s) (entry (widthRow c) s) (number-at-lt bytesOf _ (entry (widthRow c) s)) (fs s))
 
   -- ---- sum and difference
-  -- a set flag stands for two channels
-  flag-two : (s : ℕ) → joinAt (unpack p frame) s ≡ true → channels p ≡ 2
+  -- a set flag stands for a subband that there is, and for two channels
+  flag-low : (s : ℕ) → joinAt (unpack p frame) s ≡ true → s < joinCount p
   unfolding unpack readJoin
-  flag-two s e = go (ltb s (joinCount p)) refl
+  flag-low s e = go (ltb s (joinCount p)) refl
     where
-      go : (t : Bool) → ltb s (joinCount p) ≡ t → channels p ≡ 2
-      go true h = joins-two p s (ltb-true s (joinCount p) h)
+      go : (t : Bool) → ltb s (joinCount p) ≡ t → s < joinCount p
+      go true h = ltb-true s (joinCount p) h
       go false h =
           absurd (false≢true
           (sym (getD-build-out (joinCount p) (λ s. odd (numberAt frame (32 + s) 1)) s false (ltb-false s (joinCount p) h)) ∙ e))
 
-  module _ (l₀ r₀ l r : List ℤ) (left : ChannelIn bytesOf (widthRow 0) (leftFactors p bytesOf) (start 0) (blockBits p) (p .blocks) l₀)
-      (right : ChannelIn bytesOf (widthRow 1) (rightFactors p bytesOf) (start 1) (blockBits p) (p .blocks) r₀)
-      (sums : (b s : ℕ) → b < p .blocks → s < 8
-      → sampleIn l b s ≡ (if eqb (entry (flagRow p bytesOf) s) 1 then sampleIn l₀ b s +ℤ sampleIn r₀ b s else sampleIn l₀ b s))
-      (differences : (b s : ℕ) → b < p .blocks → s < 8
-      → sampleIn r b s ≡ (if eqb (entry (flagRow p bytesOf) s) 1 then sampleIn l₀ b s -ℤ sampleIn r₀ b s else sampleIn r₀ b s)) where
-    -- the samples after sum and difference are those that are decoded
-    pub joined-is : FrameIn p (unpack p frame) l r
+  flag-two : (s : ℕ) → joinAt (unpack p frame) s ≡ true → channels p ≡ 2
+  flag-two s e = joins-two p s (flag-low s e)
+
+  flag-clear : (c s : ℕ) → c < 2 → (c < channels p → p .subbands ≤ s) → joinAt (unpack p frame) s ≡ false
+  flag-clear c s hc out = go (joinAt (unpack p frame) s) refl
+    where
+      go : (t : Bool) → joinAt (unpack p frame) s ≡ t → t ≡ false
+      go true e =
+          let two = flag-two s e in
+          absurd (omega (arith, flag-low s e, joins-le p, out (omega arith)))
+      go false e = refl
+
+  -- the arrays after sum and difference
+  abbrev sumArray : List ℤ
+  sumArray = withFlagged (p .blocks) (flagRow p bytesOf) (λ b s. sampleIn (readArray 0) b s +ℤ sampleIn (readArray 1) b s) (readArray 0)
+
+  abbrev differenceArray : List ℤ
+  differenceArray = withFlagged (p .blocks) (flagRow p bytesOf) (λ b s. sampleIn (readArray 0) b s -ℤ sampleIn (readArray 1) b s) (readArray 1)
+
+  module _ (b s : ℕ) (hb : b < p .blocks) (hs : s < 8) where
+    sums : sampleIn sumArray b s
+        ≡ (if eqb (entry (flagRow p bytesOf) s) 1 then sampleIn (readArray 0) b s +ℤ sampleIn (readArray 1) b s else sampleIn (readArray 0) b s)
+    sums =
+        flagged-in (p .blocks) (flagRow p bytesOf) (λ b s. sampleIn (readArray 0) b s +ℤ sampleIn (readArray 1) b s) (readArray 0) b s hb
+        (ranges p a .blocks-high) hs
+
+    differences : sampleIn differenceArray b s
+        ≡ (if eqb (entry (flagRow p bytesOf) s) 1 then sampleIn (readArray 0) b s -ℤ sampleIn (readArray 1) b s else sampleIn (readArray 1) b s)
+    differences =
+        flagged-in (p .blocks) (flagRow p bytesOf) (λ b s. sampleIn (readArray 0) b s -ℤ sampleIn (readArray 1) b s) (readArray 1) b s hb
+        (ranges p a .blocks-high) hs
+
+    -- their samples are those that are decoded
+    decoded-there : (c : ℕ) → c < channels p → s < p .subbands → (t : Bool) → joinAt (unpack p frame) s ≡ t
+        → sampleIn (getD (sumArray ∷ differenceArray ∷ []) c []) b s ≡ decodedAt p (unpack p frame) b c s
     unfolding decodedAt
-    joined-is b c s hb hc hs = go c hc (joinAt (unpack p frame) s) refl
-      where
-        eight : s < 8
-        eight = omega (arith, ranges p a .subbands-high)
+    decoded-there zero hc h true e =
+        let two = flag-two s e in
+        sums ∙ rw (flag-is s, e, sample-is b 0 s hb hc h, sample-is b 1 s hb (omega arith) h)
+    decoded-there zero hc h false e = sums ∙ rw (flag-is s, e, sample-is b 0 s hb hc h)
+    decoded-there (suc zero) hc h true e =
+        differences ∙ rw (flag-is s, e, sample-is b 0 s hb (omega arith) h, sample-is b 1 s hb hc h)
+    decoded-there (suc zero) hc h false e = differences ∙ rw (flag-is s, e, sample-is b 1 s hb hc h)
+    decoded-there (suc (suc c)) hc h t e = absurd (omega (arith, channels-range p .1))
 
-        go : (c : ℕ) → c < channels p → (t : Bool) → joinAt (unpack p frame) s ≡ t
-            → sampleIn (getD (l ∷ r ∷ []) c []) b s ≡ decodedAt p (unpack p frame) b c s
-        go zero hc true e =
-            let two = flag-two s e in
-            sums b s hb eight
-            ∙ rw (flag-is s, e, sample-is 0 l₀ left b s hb hc hs, sample-is 1 r₀ right b s hb (omega arith) hs)
-        go zero hc false e = sums b s hb eight ∙ rw (flag-is s, e, sample-is 0 l₀ left b s hb hc hs)
-        go (suc zero) hc true e =
-            differences b s hb eight
-            ∙ rw (flag-is s, e, sample-is 0 l₀ left b s hb (omega arith) hs, sample-is 1 r₀ right b s hb hc hs)
-        go (suc zero) hc false e = differences b s hb eight ∙ rw (flag-is s, e, sample-is 1 r₀ right b s hb hc hs)
-        go (suc (suc c)) hc t e = absurd (omega (arith, channels-range p .1))
+    -- and 0 where there is no such channel or no such subband
+    decoded-none : (c : ℕ) → c < 2 → (c < channels p → p .subbands ≤ s) → sampleIn (getD (sumArray ∷ differenceArray ∷ []) c []) b s ≡ pos 0
+    decoded-none zero hc out = sums ∙ rw (flag-is s, flag-clear 0 s hc out) (sample-none b 0 s hb hc hs out)
+    decoded-none (suc zero) hc out = differences ∙ rw (flag-is s, flag-clear 1 s hc out) (sample-none b 1 s hb hc hs out)
+    decoded-none (suc (suc c)) hc out = absurd (omega arith)
 
-    -- and small
-    pub joined-small : Small (p .blocks) (2 ^ 27) l₀ → Small (p .blocks) (2 ^ 27) r₀ → (Small (p .blocks) (2 ^ 28) l) × (Small (p .blocks) (2 ^ 28) r)
-    joined-small hl hr = (
-      λ b s hb hs. rw (sums b s hb hs)
-          (by-test (λ z. natAbs z ≤ 2 ^ 28) (eqb (entry (flagRow p bytesOf) s) 1) _ _
-          (λ _. omega (arith, natAbs-+ (sampleIn l₀ b s) (sampleIn r₀ b s), hl b s hb hs, hr b s hb hs))
-          (λ _. omega (arith, hl b s hb hs))),
-      λ b s hb hs. rw (differences b s hb hs)
-          (by-test (λ z. natAbs z ≤ 2 ^ 28) (eqb (entry (flagRow p bytesOf) s) 1) _ _
-          (λ _. omega (arith, natAbs-- (sampleIn l₀ b s) (sampleIn r₀ b s), hl b s hb hs, hr b s hb hs))
-          (λ _. omega (arith, hr b s hb hs))),
-    )
+  decoded-in : (c : ℕ) → c < 2 → SamplesIn (p .blocks) (channelRows p (unpack p frame) c) (getD (sumArray ∷ differenceArray ∷ []) c [])
+  decoded-in c hc b s hb hs = go (ltb c (channels p)) (ltb s (p .subbands)) refl refl
+    where
+      go : (t u : Bool) → ltb c (channels p) ≡ t → ltb s (p .subbands) ≡ u
+          → sampleIn (getD (sumArray ∷ differenceArray ∷ []) c []) b s ≡ sampleAt (channelRows p (unpack p frame) c) b s
+      go true true e d =
+          let h = ltb-true c (channels p) e in
+          let k = ltb-true s (p .subbands) d in
+          decoded-there b s hb hs c h k (joinAt (unpack p frame) s) refl ∙ sym (rows-there p (unpack p frame) b c s hb h k)
+      go true false e d =
+          let k = ltb-false s (p .subbands) d in
+          decoded-none b s hb hs c hc (λ _. k) ∙ sym (rows-behind p (unpack p frame) b c s hb (ltb-true c (channels p) e) k)
+      go false u e d =
+          let h = ltb-false c (channels p) e in
+          decoded-none b s hb hs c hc (λ l. absurd (omega arith)) ∙ sym (rows-absent p (unpack p frame) b c s h)
+
+  -- so they are the arrays of the channels
+  sum-is : sumArray ≡ channelArray p (unpack p frame) 0
+  sum-is =
+      channel-is p (unpack p frame) 0 sumArray (length-flagged (p .blocks) (flagRow p bytesOf) _ (readArray 0)) (decoded-in 0 (omega arith))
+      (flagged-zero (p .blocks) (flagRow p bytesOf) _ (readArray 0) (array-behind (p .blocks) _))
+
+  difference-is : differenceArray ≡ channelArray p (unpack p frame) 1
+  difference-is =
+      channel-is p (unpack p frame) 1 differenceArray (length-flagged (p .blocks) (flagRow p bytesOf) _ (readArray 1)) (decoded-in 1 (omega arith))
+      (flagged-zero (p .blocks) (flagRow p bytesOf) _ (readArray 1) (array-behind (p .blocks) _))
+
+  -- and small
+  module _ (hl : Small (p .blocks) (2 ^ 27) (readArray 0)) (hr : Small (p .blocks) (2 ^ 27) (readArray 1)) where
+    sum-small : Small (p .blocks) (2 ^ 28) sumArray
+    sum-small b s hb hs =
+        rw (sums b s hb hs)
+        (by-test (λ z. natAbs z ≤ 2 ^ 28) (eqb (entry (flagRow p bytesOf) s) 1) _ _
+        (λ _. omega (arith, natAbs-+ (sampleIn (readArray 0) b s) (sampleIn (readArray 1) b s), hl b s hb hs, hr b s hb hs))
+        (λ _. omega (arith, hl b s hb hs)))
+
+    difference-small : Small (p .blocks) (2 ^ 28) differenceArray
+    difference-small b s hb hs =
+        rw (differences b s hb hs)
+        (by-test (λ z. natAbs z ≤ 2 ^ 28) (eqb (entry (flagRow p bytesOf) s) 1) _ _
+        (λ _. omega (arith, natAbs-- (sampleIn (readArray 0) b s) (sampleIn (readArray 1) b s), hl b s hb hs, hr b s hb hs))
+        (λ _. omega (arith, hr b s hb hs)))
 
 -- ---- what the code has when it comes to the values
 pub record Got (p : SbcParameters) (frame bytes left right : List ℕ) (table : List (List ℕ)) (side second bits : ℕ) : Type 0 where
@@ -291,12 +367,6 @@ pub record Got (p : SbcParameters) (frame bytes left right : List ℕ) (table : 
   pub second-is : second ≡ total 8 (entry (getD table 0 []))
   pub bits-are : bits ≡ blockBits p
   pub bits-high : bits ≤ 510
-
-channel-moved : (n : ℕ) (xs : List ℤ) {bytes bytes′ widths widths′ factors factors′ : List ℕ} {position position′ bits bits′ : ℕ}
-    → bytes ≡ bytes′ → widths ≡ widths′ → factors ≡ factors′ → position ≡ position′ → bits ≡ bits′
-    → ChannelIn bytes widths factors position bits n xs → ChannelIn bytes′ widths′ factors′ position′ bits′ n xs
-channel-moved n xs eb ew ef ep en h b s hb hs =
-    h b s hb hs ∙ (λ i. valueOf (eb i) (ep i + total s (entry (ew i))) (en i) (entry (ew i) s) (entry (ef i) s) b)
 
 -- what a channel is read from
 abbrev pub Asks : ℕ → List ℕ → List ℕ → List ℕ → ℕ → ℕ → Type 0
@@ -348,53 +418,63 @@ module _ {p : SbcParameters} {frame bytes left right : List ℕ} {table : List (
       (row-small bytes (32 + joinCount p + 4 * p .subbands) (p .subbands * (channels p - 1)) s (row-sizes p (g .good) .others-high)))
       second-start
 
-  module _ (l₀ r₀ : List ℤ) (hl : ChannelIn bytes (getD table 0 []) left (32 + side) bits (p .blocks) l₀)
-      (hr : ChannelIn bytes (getD table 1 []) right (32 + side + second) bits (p .blocks) r₀) where
-    left-in : ChannelIn (bytesOf p (g .good) frame (g .long)) (widthRow p (g .good) frame (g .long) 0)
-        (leftFactors p (bytesOf p (g .good) frame (g .long))) (start p (g .good) frame (g .long) 0) (blockBits p) (p .blocks) l₀
-    left-in = channel-moved (p .blocks) l₀ (g .bytes-are) (widths-are 0) left-row first-start (g .bits-are) hl
+  -- what is read of the channels
+  module _ (l₀ r₀ : List ℤ) (hl : l₀ ≡ samplesArray (p .blocks) (channelValues bytes (getD table 0 []) left (32 + side) bits (p .blocks)))
+      (hr : r₀ ≡ samplesArray (p .blocks) (channelValues bytes (getD table 1 []) right (32 + side + second) bits (p .blocks))) where
+    left-in : l₀ ≡ readArray p (g .good) frame (g .long) 0
+    left-in =
+        hl
+        ∙ (λ i. samplesArray (p .blocks)
+        (channelValues (g .bytes-are i) (widths-are 0 i) (left-row i) (first-start i) (g .bits-are i) (p .blocks)))
 
-    right-in : ChannelIn (bytesOf p (g .good) frame (g .long)) (widthRow p (g .good) frame (g .long) 1)
-        (rightFactors p (bytesOf p (g .good) frame (g .long))) (start p (g .good) frame (g .long) 1) (blockBits p) (p .blocks) r₀
-    right-in = channel-moved (p .blocks) r₀ (g .bytes-are) (widths-are 1) right-row second-start (g .bits-are) hr
+    right-in : r₀ ≡ readArray p (g .good) frame (g .long) 1
+    right-in =
+        hr
+        ∙ (λ i. samplesArray (p .blocks)
+        (channelValues (g .bytes-are i) (widths-are 1 i) (right-row i) (second-start i) (g .bits-are i) (p .blocks)))
 
-    -- what is read is small
-    pub left-small : Small (p .blocks) (2 ^ 27) l₀
-    left-small =
-        sample-small p (g .good) frame (g .long) 0 l₀ left-in
+    -- it is small
+    first-small : Small (p .blocks) (2 ^ 27) (readArray p (g .good) frame (g .long) 0)
+    first-small =
+        sample-small p (g .good) frame (g .long) 0
         (λ s. row-small (bytesOf p (g .good) frame (g .long)) (32 + joinCount p) (p .subbands) s (row-sizes p (g .good) .subbands-high))
 
-    pub right-small : Small (p .blocks) (2 ^ 27) r₀
-    right-small =
-        sample-small p (g .good) frame (g .long) 1 r₀ right-in
+    second-small : Small (p .blocks) (2 ^ 27) (readArray p (g .good) frame (g .long) 1)
+    second-small =
+        sample-small p (g .good) frame (g .long) 1
         (λ s. row-small (bytesOf p (g .good) frame (g .long)) (32 + joinCount p + 4 * p .subbands) (p .subbands * (channels p - 1)) s
         (row-sizes p (g .good) .others-high))
 
+    pub left-small : Small (p .blocks) (2 ^ 27) l₀
+    left-small = subst (Small (p .blocks) (2 ^ 27)) (sym left-in) first-small
+
+    pub right-small : Small (p .blocks) (2 ^ 27) r₀
+    right-small = subst (Small (p .blocks) (2 ^ 27)) (sym right-in) second-small
+
     -- and after sum and difference it is what is decoded
     module _ (flags : List ℕ) (flags-are : flags ≡ flagRow p bytes) (l r : List ℤ)
-        (sums : (b s : ℕ) → b < p .blocks → s < 8
-        → sampleIn l b s ≡ (if eqb (entry flags s) 1 then sampleIn l₀ b s +ℤ sampleIn r₀ b s else sampleIn l₀ b s))
-        (differences : (b s : ℕ) → b < p .blocks → s < 8
-        → sampleIn r b s ≡ (if eqb (entry flags s) 1 then sampleIn l₀ b s -ℤ sampleIn r₀ b s else sampleIn r₀ b s)) where
+        (sum : l ≡ withFlagged (p .blocks) flags (λ b s. sampleIn l₀ b s +ℤ sampleIn r₀ b s) l₀)
+        (difference : r ≡ withFlagged (p .blocks) flags (λ b s. sampleIn l₀ b s -ℤ sampleIn r₀ b s) r₀) where
       flag-row : flags ≡ flagRow p (bytesOf p (g .good) frame (g .long))
       flag-row = flags-are ∙ ap (flagRow p) (g .bytes-are)
 
-      by-flag : (y z : ℤ) (s : ℕ)
-          → (if eqb (entry flags s) 1 then y else z) ≡ (if eqb (entry (flagRow p (bytesOf p (g .good) frame (g .long))) s) 1 then y else z)
-      by-flag y z s = ap (λ (row : List ℕ). if eqb (entry row s) 1 then y else z) flag-row
+      sum-in : l ≡ sumArray p (g .good) frame (g .long)
+      sum-in =
+          sum ∙ (λ i. withFlagged (p .blocks) (flag-row i) (λ b s. sampleIn (left-in i) b s +ℤ sampleIn (right-in i) b s) (left-in i))
 
-      sums-in : (b s : ℕ) → b < p .blocks → s < 8
-          → sampleIn l b s
-          ≡ (if eqb (entry (flagRow p (bytesOf p (g .good) frame (g .long))) s) 1 then sampleIn l₀ b s +ℤ sampleIn r₀ b s else sampleIn l₀ b s)
-      sums-in b s hb hs = sums b s hb hs ∙ by-flag (sampleIn l₀ b s +ℤ sampleIn r₀ b s) (sampleIn l₀ b s) s
+      difference-in : r ≡ differenceArray p (g .good) frame (g .long)
+      difference-in =
+          difference ∙ (λ i. withFlagged (p .blocks) (flag-row i) (λ b s. sampleIn (left-in i) b s -ℤ sampleIn (right-in i) b s) (right-in i))
 
-      differences-in : (b s : ℕ) → b < p .blocks → s < 8
-          → sampleIn r b s
-          ≡ (if eqb (entry (flagRow p (bytesOf p (g .good) frame (g .long))) s) 1 then sampleIn l₀ b s -ℤ sampleIn r₀ b s else sampleIn r₀ b s)
-      differences-in b s hb hs = differences b s hb hs ∙ by-flag (sampleIn l₀ b s -ℤ sampleIn r₀ b s) (sampleIn r₀ b s) s
-
-      pub frame-in : (FrameIn p (unpack p frame) l r) × ((Small (p .blocks) (2 ^ 28) l) × (Small (p .blocks) (2 ^ 28) r))
+      pub frame-in : (l ≡ channelArray p (unpack p frame) 0)
+          × ((r ≡ channelArray p (unpack p frame) 1) × ((Small (p .blocks) (2 ^ 28) l) × (Small (p .blocks) (2 ^ 28) r)))
       frame-in = (
-        joined-is p (g .good) frame (g .long) l₀ r₀ l r left-in right-in sums-in differences-in,
-        joined-small p (g .good) frame (g .long) l₀ r₀ l r left-in right-in sums-in differences-in left-small right-small,
+        sum-in ∙ sum-is p (g .good) frame (g .long),
+        (
+          difference-in ∙ difference-is p (g .good) frame (g .long),
+          (
+            subst (Small (p .blocks) (2 ^ 28)) (sym sum-in) (sum-small p (g .good) frame (g .long) first-small second-small),
+            subst (Small (p .blocks) (2 ^ 28)) (sym difference-in) (difference-small p (g .good) frame (g .long) first-small second-small),
+          ),
+        ),
       )

@@ -1,11 +1,13 @@
 -- How the code of the decoder reads a frame, for the contracts of its inner functions alone: flags and scale factors in rows of eight, and the
 -- subband samples of a channel in an array of 128, eight places a block. Nothing public cites this.
 -- From document 01, "Parameters", "Quantizing" and "Joint stereo".
-use Prim.Native.Nat.{ℕ, _+_, _*_, _-_, _<_}
-use mathlib.Core.Path.{_≡_}
-use mathlib.Core.List.{List, [], _∷_}
+use Prim.Native.Nat.{ℕ, _+_, _*_, _-_, _/_, _%_}
+use mathlib.Core.Bool.{_&&_}
+use mathlib.Core.List.{List, []}
+use lib.Dec.{eqb, ltb}
 use lib.ListN.{getD}
-use lib.IntN.{ℤ}
+use lib.IntN.{ℤ, pos}
+use Rattle.laws.specs.Choice.{if_then_else_}
 use Rattle.laws.specs.Lists.{build, total}
 use Rattle.bits.specs.Fields.{numberAt}
 use Rattle.sbc_parameters.specs.Parameters.{channels}
@@ -13,8 +15,8 @@ use Rattle.sbc_parameters.specs.Sizes.{joinCount}
 use Rattle.sbc_parameters.specs.declared.SbcParameters.{SbcParameters}
 use Rattle.sbc_quantizer.specs.Quantizing.{reconstruct}
 use Rattle.sbc_frame.specs.Fields.{Fields}
-use Rattle.sbc_frame.specs.Decoding.{decodedAt}
-use Rattle.sbc_frame.specs.Arrays.{below, sampleIn, entry}
+use Rattle.sbc_frame.specs.Decoding.{channelBlocks}
+use Rattle.sbc_frame.specs.Arrays.{below, samplesArray, entry}
 
 -- `count` numbers of `width` bits each, end to end from a position on, in a row of eight
 unfoldable pub rowAt : List ℕ → ℕ → ℕ → ℕ → List ℕ
@@ -34,13 +36,15 @@ rightFactors p bytes = rowAt bytes (32 + joinCount p + 4 * p .subbands) 4 (p .su
 unfoldable pub valueOf : List ℕ → ℕ → ℕ → ℕ → ℕ → ℕ → ℤ
 valueOf bytes position block-bits width factor b = reconstruct (numberAt bytes (position + b * block-bits) width) factor width
 
--- the samples of a channel, whose first value stands at a position
-abbrev pub ChannelIn : List ℕ → List ℕ → List ℕ → ℕ → ℕ → ℕ → List ℤ → Type 0
-ChannelIn bytes widths factors position block-bits blocks xs =
-    (b s : ℕ) → b < blocks → s < 8
-    → sampleIn xs b s ≡ valueOf bytes (position + total s (entry widths)) block-bits (entry widths s) (entry factors s) b
+-- the samples of a channel by block and subband, where the channel's first value stands at a position
+unfoldable pub channelValues : List ℕ → List ℕ → List ℕ → ℕ → ℕ → ℕ → List (List ℤ)
+channelValues bytes widths factors position block-bits blocks =
+    build blocks (λ b. build 8 (λ s. valueOf bytes (position + total s (entry widths)) block-bits (entry widths s) (entry factors s) b))
 
--- the samples of a frame
-abbrev pub FrameIn : SbcParameters → Fields → List ℤ → List ℤ → Type 0
-FrameIn p f left right =
-    (b c s : ℕ) → b < p .blocks → c < channels p → s < p .subbands → sampleIn (getD (left ∷ right ∷ []) c []) b s ≡ decodedAt p f b c s
+-- an array of samples with those of every subband whose flag is set replaced in its first n blocks
+unfoldable pub withFlagged : ℕ → List ℕ → (ℕ → ℕ → ℤ) → List ℤ → List ℤ
+withFlagged n flags f xs = build 128 (λ k. if eqb (entry flags (k % 8)) 1 && ltb (k / 8) n then f (k / 8) (k % 8) else getD xs k (pos 0))
+
+-- the array of the samples of a frame's channel: zeros behind a block's S samples, behind the blocks, and where there is no such channel
+unfoldable pub channelArray : SbcParameters → Fields → ℕ → List ℤ
+channelArray p f c = samplesArray (p .blocks) (if ltb c (channels p) then channelBlocks p f c else [])

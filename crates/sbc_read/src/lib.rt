@@ -7,20 +7,18 @@ ghost use mathlib.Core.Path.{_≡_};
 ghost use mathlib.Core.Bool.{true};
 ghost use mathlib.Core.List.{_++_};
 ghost use Prim.Native.Nat.{ℕ, _+_, _-_, _*_, _/_, _^_, _≤_, _<_};
-ghost use lib.Dec.{eqb};
 ghost use lib.ListN.{length, take, drop, replicate};
 ghost use lib.IntN.{natAbs, _+ℤ_, _-ℤ_};
-ghost use Rattle.laws.specs.Choice.{if_then_else_};
 ghost use Rattle.laws.specs.Bits.{numberOf, bitsOfBytes};
 ghost use Rattle.laws.specs.Lists.{total};
 ghost use Rattle.bits.specs.Fields.{numberAt};
 ghost use Rattle.sbc_parameters.specs.Parameters.{accepted};
 ghost use Rattle.sbc_parameters.specs.Sizes.{frameLength};
 ghost use Rattle.sbc_frame.specs.Layout.{unpack};
-ghost use Rattle.sbc_frame.specs.Arrays.{withSubband, sampleIn, entry, Small};
-ghost use Rattle.sbc_read.specs.Reading.{rowAt, flagRow, leftFactors, rightFactors, valueOf, ChannelIn, FrameIn};
+ghost use Rattle.sbc_frame.specs.Arrays.{withSubband, sampleIn, samplesArray, entry, Small};
+ghost use Rattle.sbc_read.specs.Reading.{rowAt, flagRow, leftFactors, rightFactors, valueOf, channelValues, withFlagged, channelArray};
 
-// The subband samples of both channels; the second's are 0 where a frame has one.
+// The subband samples of both channels, with zeros behind a block's samples and behind the blocks; the second's are 0 where a frame has one.
 pub struct Samples {
     pub left: [i32; 128],
     pub right: [i32; 128],
@@ -111,7 +109,7 @@ fn read_channel(
     blocks: usize,
 ) -> [i32; 128]
     requires { ⌜ (length (now bytes) ≡ 528) × ((s : ℕ) → entry (now widths) s ≤ 16) × ((s : ℕ) → entry (now factors) s ≤ 15) × (0 < blocks) × (blocks ≤ 16) × («block_bits» ≤ 510) × ((b : ℕ) → b < blocks → position + b * «block_bits» + total 8 (entry (now widths)) ≤ 4192) ⌝ }
-    ensures { λ r. ⌜ (length r ≡ 128) × (ChannelIn (now (bytes .entry)) (now (widths .entry)) (now (factors .entry)) position «block_bits» blocks r) ⌝ }
+    ensures { λ r. ⌜ r ≡ samplesArray blocks (channelValues (now (bytes .entry)) (now (widths .entry)) (now (factors .entry)) position «block_bits» blocks) ⌝ }
 {
     let mut samples = [0i32; 128];
     let mut at = position;
@@ -162,8 +160,8 @@ fn join_subband(left: &mut [i32; 128], right: &mut [i32; 128], subband: usize, b
 // Sum and difference for every join flag that is set.
 fn join(left: &mut [i32; 128], right: &mut [i32; 128], flags: &[u8; 8], blocks: usize)
     requires { ⌜ (length (now left) ≡ 128) × (length (now right) ≡ 128) × (blocks ≤ 16) × (Small blocks (2 ^ 27) (now left)) × (Small blocks (2 ^ 27) (now right)) ⌝ }
-    ensures left { λ _. ⌜ ((b s : ℕ) → b < blocks → s < 8 → sampleIn (now (left .exit)) b s ≡ (if eqb (entry (now (flags .entry)) s) 1 then sampleIn (now (left .entry)) b s +ℤ sampleIn (now (right .entry)) b s else sampleIn (now (left .entry)) b s)) ⌝ }
-    ensures right { λ _. ⌜ ((b s : ℕ) → b < blocks → s < 8 → sampleIn (now (right .exit)) b s ≡ (if eqb (entry (now (flags .entry)) s) 1 then sampleIn (now (left .entry)) b s -ℤ sampleIn (now (right .entry)) b s else sampleIn (now (right .entry)) b s)) ⌝ }
+    ensures left { λ _. ⌜ now (left .exit) ≡ withFlagged blocks (now (flags .entry)) (λ b s. sampleIn (now (left .entry)) b s +ℤ sampleIn (now (right .entry)) b s) (now (left .entry)) ⌝ }
+    ensures right { λ _. ⌜ now (right .exit) ≡ withFlagged blocks (now (flags .entry)) (λ b s. sampleIn (now (left .entry)) b s -ℤ sampleIn (now (right .entry)) b s) (now (right .entry)) ⌝ }
 {
     for subband in 0..8 {
         if flags[subband] == 1 {
@@ -192,7 +190,8 @@ fn read_side(parameters: SbcParameters, bytes: &[u8; 528]) -> Side
 // The samples of a frame's channels. Where a frame has one channel, the second has no scale factors, and so no bits.
 pub fn read_frame(parameters: SbcParameters, frame: &[u8]) -> Samples
     requires { ⌜ (accepted parameters ≡ true) × (length (now frame) ≡ frameLength parameters) ⌝ }
-    ensures samples { λ r. ⌜ FrameIn parameters (unpack parameters (now (frame .entry))) (r .left) (r .right) ⌝ }
+    ensures left { λ r. ⌜ r .left ≡ channelArray parameters (unpack parameters (now (frame .entry))) 0 ⌝ }
+    ensures right { λ r. ⌜ r .right ≡ channelArray parameters (unpack parameters (now (frame .entry))) 1 ⌝ }
     ensures bounds { λ r. ⌜ (Small (parameters .blocks) (2 ^ 28) (r .left)) × (Small (parameters .blocks) (2 ^ 28) (r .right)) ⌝ }
 {
     let bytes = padded(frame);

@@ -27,10 +27,10 @@ returns : tie.Need-returns
 returns c =
     let s = c .before .before .before .before .before .before .before .before .before in
     let p = s .args .parameters in
-    let read = c .before .before .before .before .before .before .before .read-frame .ensures .0 in
+    let read = c .before .before .before .before .before .before .before .read-frame .ensures in
     let played = c .before .play-frame .ensures in (
-      played .0 ∙ histories-decoded p _ _ _ read (s .args .histories),
-      played .1 ∙ ap (λ (pcm : List ℤ). pcm ++ drop (frameSamples p) (s .args .output .now)) (pcm-decoded p _ _ _ read (s .args .histories)),
+      played .0 ∙ histories-decoded p (s .pre .0) _ _ _ (read .0) (read .1 .0) (s .args .histories),
+      played .1 ∙ ap (λ (pcm : List ℤ). pcm ++ drop (frameSamples p) (s .args .output .now)) (pcm-decoded p (s .pre .0) _ _ _ (read .0) (read .1 .0) (s .args .histories)),
     )
 
 pub decode-frame-spec : {M : Type 1} → statement M

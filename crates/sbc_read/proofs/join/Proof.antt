@@ -1,5 +1,5 @@
--- `sbc_read::join` meets its contract. The loop's invariant: the subbands passed are joined where their flag is set, and the others are
--- as they were at entry.
+-- `sbc_read::join` meets its contract. The loop's invariant: the subbands passed are joined where their flag is set, and the others
+-- and what is behind the blocks are as they were at entry.
 -- Assumes nothing.
 use Prim.Native.Nat.{ℕ, _-_, _≤_, _<_}
 use mathlib.Core.Path.{_≡_, refl, sym, ap, ap₂, _∙_}
@@ -14,6 +14,7 @@ use borrow.Author.Tests.{eq-eqb, ne-eqb}
 use Rattle.laws.specs.Choice.{if_then_else_}
 use Rattle.sbc_frame.specs.Arrays.{withSubband, sampleIn, entry}
 use Rattle.sbc_frame.proofs.Columns.{length-replaced, Mixed, mixed-none, mixed-here, mixed-all, mixed-store, mixed-skip}
+use Rattle.sbc_read.proofs.Arrays.{Behind, behind-store, behind-skip, flagged-is}
 use Rattle.sbc_read.proofs.join.Statement.{statement}
 use Rattle.sbc_read.proofs.join.Tie as tie
 
@@ -29,6 +30,7 @@ Inv-loop left₀ right₀ flags blocks subband₀ left right subband =
     (subband ≤ 8) × (length left ≡ 128) × (length right ≡ 128)
     × Mixed blocks (joinedLeft left₀ right₀ flags) (sampleIn left₀) subband left
     × Mixed blocks (joinedRight left₀ right₀ flags) (sampleIn right₀) subband right
+    × Behind blocks (sampleIn left₀) left × Behind blocks (sampleIn right₀) right
 
 abbrev μ-loop : tie.MeasureT-loop
 μ-loop left₀ right₀ flags blocks subband₀ left right subband = 8 - subband
@@ -43,6 +45,8 @@ loop-holds c =
       c .pre .1,
       mixed-none (a .blocks) (joinedLeft left right (a .flags .now)) (sampleIn left) left (λ b s _ _. refl),
       mixed-none (a .blocks) (joinedRight left right (a .flags .now)) (sampleIn right) right (λ b s _ _. refl),
+      λ b s _ _ _. refl,
+      λ b s _ _ _. refl,
     )
 
 element-copy-out-if1 : tie.Need-element-copy-out-if1 Inv-loop μ-loop
@@ -110,6 +114,8 @@ loop-again c =
           k (omega arith) e (λ b h. ap₂ _+ℤ_ (old-left l k b h) (old-right l k b h) ∙ sym (rw set)),
       mixed-store (a .blocks) (joinedRight left right flags) (sampleIn right) n (l .loop .right) (l .loop .inv .4) _ (c .if1 .right)
           k (omega arith) d (λ b h. ap₂ _-ℤ_ (old-left l k b h) (old-right l k b h) ∙ sym (rw set)),
+      behind-store (a .blocks) (sampleIn left) n _ (l .loop .left) (c .if1 .left) (l .loop .inv .5) e,
+      behind-store (a .blocks) (sampleIn right) n _ (l .loop .right) (c .if1 .right) (l .loop .inv .6) d,
     ))
     (λ w.
     let clear : eqb (entry flags n) 1 ≡ false = ne-eqb (entry flags n) 1 (w .0 .left) in (
@@ -120,6 +126,8 @@ loop-again c =
           (λ b h. sym (rw clear)),
       mixed-skip (a .blocks) (joinedRight left right flags) (sampleIn right) n (l .loop .right) (l .loop .inv .4) (c .if1 .right) (w .2)
           (λ b h. sym (rw clear)),
+      behind-skip (a .blocks) (sampleIn left) (l .loop .left) (c .if1 .left) (l .loop .inv .5) (w .1),
+      behind-skip (a .blocks) (sampleIn right) (l .loop .right) (c .if1 .right) (l .loop .inv .6) (w .2),
     ))
     (c .if1 .came)
 
@@ -128,9 +136,12 @@ returns c =
     let a = c .before .before .args in
     let l = c .before .loop in
     let left = a .left .now in
-    let right = a .right .now in (
-      mixed-all (a .blocks) (joinedLeft left right (a .flags .now)) (sampleIn left) (l .subband) (l .left) (l .inv .3) (omega arith),
-      mixed-all (a .blocks) (joinedRight left right (a .flags .now)) (sampleIn right) (l .subband) (l .right) (l .inv .4) (omega arith),
+    let right = a .right .now in
+    let flags = a .flags .now in (
+      flagged-is (a .blocks) flags (λ b s. sampleIn left b s +ℤ sampleIn right b s) left (l .left) (l .inv .1)
+          (mixed-all (a .blocks) (joinedLeft left right flags) (sampleIn left) (l .subband) (l .left) (l .inv .3) (omega arith)) (l .inv .5),
+      flagged-is (a .blocks) flags (λ b s. sampleIn left b s -ℤ sampleIn right b s) right (l .right) (l .inv .2)
+          (mixed-all (a .blocks) (joinedRight left right flags) (sampleIn right) (l .subband) (l .right) (l .inv .4) (omega arith)) (l .inv .6),
     )
 
 pub join-spec : {M : Type 1} → statement M

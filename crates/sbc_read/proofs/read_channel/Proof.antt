@@ -1,38 +1,27 @@
--- `sbc_read::read_channel` meets its contract. The loop's invariant: the subbands passed have their samples, the others have zeros, and
--- where the next subband's first value stands.
+-- `sbc_read::read_channel` meets its contract. The loop's invariant: the subbands passed have their samples, the others and what is
+-- behind the blocks have zeros, and where the next subband's first value stands.
 -- Assumes nothing.
 use Prim.Native.Nat.{ℕ, _+_, _-_, _*_, _≤_}
-use mathlib.Core.Path.{_≡_, refl, ap, _∙_}
+use mathlib.Core.Path.{_≡_, refl, sym, ap, _∙_}
 use mathlib.Core.Logic.{⊎-elim}
-use mathlib.Core.List.{List}
 use native.Mathlib.Omega.{arith}
 use lib.ListN.{length, replicate, getD-replicate}
 use lib.IntN.{ℤ, pos}
 use Rattle.laws.specs.Lists.{total}
-use Rattle.sbc_quantizer.specs.Quantizing.{reconstruct}
 use Rattle.sbc_read.specs.Reading.{valueOf}
 use Rattle.sbc_frame.specs.Arrays.{withSubband, entry}
 use Rattle.sbc_frame.proofs.Positions.{total-below}
 use Rattle.sbc_frame.proofs.Blocks.{total-next}
 use Rattle.sbc_frame.proofs.Columns.{length-replaced, Mixed, mixed-none, mixed-all, mixed-store, mixed-skip}
+use Rattle.sbc_read.proofs.Arrays.{Behind, behind-store, behind-skip, channelValue, value-none, values-are}
 use Rattle.sbc_read.proofs.read_channel.Statement.{statement}
 use Rattle.sbc_read.proofs.read_channel.Tie as tie
-
--- the samples of a channel by block and subband
-abbrev value : List ℕ → List ℕ → List ℕ → ℕ → ℕ → ℕ → ℕ → ℤ
-value bytes widths factors position block-bits b s =
-    valueOf bytes (position + total s (entry widths)) block-bits (entry widths s) (entry factors s) b
-
--- those of a subband of 0 bits are 0
-value-none : (bytes widths factors : List ℕ) (position block-bits b s : ℕ) → entry widths s ≡ 0
-    → pos 0 ≡ value bytes widths factors position block-bits b s
-unfolding valueOf reconstruct
-value-none bytes widths factors position block-bits b s e = rw e
 
 abbrev Inv-loop : tie.InvT-loop
 Inv-loop bytes widths factors position block-bits blocks samples₀ at₀ subband₀ samples at subband =
     (subband ≤ 8) × (length samples ≡ 128) × (at ≡ position + total subband (entry widths))
-    × Mixed blocks (value bytes widths factors position block-bits) (λ _ _. pos 0) subband samples
+    × Mixed blocks (channelValue bytes widths factors position block-bits blocks) (λ _ _. pos 0) subband samples
+    × Behind blocks (λ _ _. pos 0) samples
 
 abbrev μ-loop : tie.MeasureT-loop
 μ-loop bytes widths factors position block-bits blocks samples₀ at₀ subband₀ samples at subband = 8 - subband
@@ -44,8 +33,9 @@ loop-holds c =
       omega arith,
       refl,
       omega arith,
-      mixed-none (a .blocks) (value (a .bytes .now) (a .widths .now) (a .factors .now) (a .position) (a .block-bits)) (λ _ _. pos 0)
+      mixed-none (a .blocks) (channelValue (a .bytes .now) (a .widths .now) (a .factors .now) (a .position) (a .block-bits) (a .blocks)) (λ _ _. pos 0)
           (replicate 128 (pos 0)) (λ b s h k. getD-replicate 128 (8 * b + s) (pos 0) (pos 0) (omega arith)),
+      λ b s _ h k. getD-replicate 128 (8 * b + s) (pos 0) (pos 0) (omega arith),
     )
 
 element-copy-out-width : tie.Need-element-copy-out-width Inv-loop μ-loop
@@ -96,7 +86,7 @@ loop-again c =
     let factors = a .factors .now in
     let n = l .subband in
     let f : ℕ → ℤ = valueOf bytes (l .at) (a .block-bits) (entry widths n) (entry factors n) in
-    let g : ℕ → ℕ → ℤ = value bytes widths factors (a .position) (a .block-bits) in
+    let g : ℕ → ℕ → ℤ = channelValue bytes widths factors (a .position) (a .block-bits) (a .blocks) in
     let more = total-next n (entry widths) in
     ⊎-elim
     (λ w.
@@ -106,6 +96,7 @@ loop-again c =
       omega (arith, more, w .5, l .inv .2),
       mixed-store (a .blocks) g (λ _ _. pos 0) n (l .samples) (l .inv .3) f (c .if1 .samples) (omega arith) (omega arith) e
           (λ b _. ap (λ (k : ℕ). valueOf bytes k (a .block-bits) (entry widths n) (entry factors n) b) (l .inv .2)),
+      behind-store (a .blocks) (λ _ _. pos 0) n f (l .samples) (c .if1 .samples) (l .inv .4) e,
     ))
     (λ w.
     let none : entry widths n ≡ 0 = w .0 .left in (
@@ -113,18 +104,18 @@ loop-again c =
       ap length (w .1) ∙ l .inv .1,
       omega (arith, more, w .2, l .inv .2),
       mixed-skip (a .blocks) g (λ _ _. pos 0) n (l .samples) (l .inv .3) (c .if1 .samples) (w .1)
-          (λ b _. value-none bytes widths factors (a .position) (a .block-bits) b n none),
+          (λ b _. sym (value-none bytes widths factors (a .position) (a .block-bits) (a .blocks) b n none)),
+      behind-skip (a .blocks) (λ _ _. pos 0) (l .samples) (c .if1 .samples) (l .inv .4) (w .1),
     ))
     (c .if1 .came)
 
 returns : tie.Need-returns Inv-loop μ-loop
 returns c =
     let a = c .before .before .args in
-    let l = c .before .loop in (
-      l .inv .1,
-      mixed-all (a .blocks) (value (a .bytes .now) (a .widths .now) (a .factors .now) (a .position) (a .block-bits)) (λ _ _. pos 0)
-          (l .subband) (l .samples) (l .inv .3) (omega arith),
-    )
+    let l = c .before .loop in
+    let g : ℕ → ℕ → ℤ = channelValue (a .bytes .now) (a .widths .now) (a .factors .now) (a .position) (a .block-bits) (a .blocks) in
+    values-are (a .bytes .now) (a .widths .now) (a .factors .now) (a .position) (a .block-bits) (a .blocks) (l .samples) (l .inv .1)
+    (mixed-all (a .blocks) g (λ _ _. pos 0) (l .subband) (l .samples) (l .inv .3) (omega arith)) (l .inv .4)
 
 pub read-channel-spec : {M : Type 1} → statement M
 read-channel-spec =

@@ -1,8 +1,11 @@
 -- `sbc_read::read_frame` meets its contract: what it has before it reads the values is `Got`, and the laws of Received do the rest.
 -- Assumes nothing.
+use mathlib.Core.Path.{ap, _∙_}
 use native.Mathlib.Omega.{arith}
+use lib.ListN.{length}
 use Rattle.sbc_parameters.proofs.Accepted.{ranges, frame-length-range}
 use Rattle.sbc_frame.proofs.Positions.{frame-room}
+use Rattle.sbc_frame.proofs.Columns.{length-array}
 use Rattle.sbc_read.proofs.Received.{Got, left-asks, right-asks, left-small, right-small, frame-in}
 use borrow.Author.Needs.{needs}
 use Rattle.sbc_read.proofs.read_frame.Statement.{statement}
@@ -85,11 +88,11 @@ join-requires c κs =
     let g = got (c .before .before .before .before .before .before .before .before .before) in
     let l = c .before .before .before .before .before .before .before .before .read-channel in
     let r = c .before .before .before .before .read-channel2 in (
-      l .ensures .0,
-      r .ensures .0,
+      ap length (l .ensures) ∙ length-array _ _,
+      ap length (r .ensures) ∙ length-array _ _,
       ranges _ (g .good) .blocks-high,
-      left-small g (l .result) (r .result) (l .ensures .1) (r .ensures .1),
-      right-small g (l .result) (r .result) (l .ensures .1) (r .ensures .1),
+      left-small g (l .result) (r .result) (l .ensures) (r .ensures),
+      right-small g (l .result) (r .result) (l .ensures) (r .ensures),
     )
 
 returns : tie.Need-returns
@@ -97,7 +100,7 @@ returns c =
     let g = got (c .before .before .before .before .before .before .before .before .before .before) in
     let l = c .before .before .before .before .before .before .before .before .before .read-channel in
     let r = c .before .before .before .before .before .read-channel2 in
-    frame-in g (l .result) (r .result) (l .ensures .1) (r .ensures .1) _ (c .before .before .before .before .before .before .before .before .before .before .before .before .before .before .before .before .before .before .before .before .before .before .before .read-side .ensures .0) _ _ (c .join .ensures .0) (c .join .ensures .1)
+    frame-in g (l .result) (r .result) (l .ensures) (r .ensures) _ (c .before .before .before .before .before .before .before .before .before .before .before .before .before .before .before .before .before .before .before .before .before .before .before .read-side .ensures .0) _ _ (c .join .ensures .0) (c .join .ensures .1)
 
 pub read-frame-spec : {M : Type 1} → statement M
 read-frame-spec =
