@@ -26,7 +26,7 @@ use Rattle.sbc_quantizer.proofs.Factors.{scale-factor-le}
 use Rattle.sbc_frame.specs.Encoding.{sampleAt, factorOf, joinedAt, plainCost, joinedCost, isJoined, codedAt}
 use Rattle.sbc_frame.specs.Arrays.{sampleIn, entry}
 use Rattle.sbc_join.specs.Joining.{factorsIn, halfSums, halfDifferences, joinRow, pickedRow, pickedSamples}
-use Rattle.sbc_join.proofs.Picked.{picked-sample}
+use Rattle.sbc_frame.proofs.Flagged.{flagged-in}
 use Rattle.sbc_code.specs.declared.Coding.{Coding}
 use Rattle.sbc_code.specs.Coding.{plainCoding, joinFlags, jointCoding, codingOf, CodingRows, CodingIn, ChannelsIn}
 use Rattle.sbc_frame.proofs.Sizes.{joins-two}
@@ -240,8 +240,8 @@ module _ (p : SbcParameters) (a : accepted p ≡ true) (samples : ℕ → List (
         sample : (b c s : ℕ) → b < p .blocks → c < channels p → s < 8
             → sampleIn (getD (pickedSamples (p .blocks) flags l sums ∷ pickedSamples (p .blocks) flags r differences ∷ []) c []) b s
             ≡ codedAt p samples b c s
-        sample b zero s hb hc hs = picked-sample (p .blocks) flags l sums b s hb few hs ∙ coded-sample b 0 s hb hc hs
-        sample b (suc zero) s hb hc hs = picked-sample (p .blocks) flags r differences b s hb few hs ∙ coded-sample b 1 s hb hc hs
+        sample b zero s hb hc hs = flagged-in (p .blocks) flags (sampleIn sums) l b s hb few hs ∙ coded-sample b 0 s hb hc hs
+        sample b (suc zero) s hb hc hs = flagged-in (p .blocks) flags (sampleIn differences) r b s hb few hs ∙ coded-sample b 1 s hb hc hs
         sample b (suc (suc c)) s hb hc hs = absurd (omega (arith, two))
 
 -- ---- what is coded of a frame

@@ -9,4 +9,5 @@ pub mod Reading
 pub mod Coding
 pub mod Blocks
 pub mod Columns
+pub mod Flagged
 pub mod Rows

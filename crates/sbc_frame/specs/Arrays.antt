@@ -40,3 +40,7 @@ Small n bound xs = (b s : ℕ) → b < n → s < 8 → natAbs (sampleIn xs b s) 
 -- an array of samples with those of subband s replaced in its first n blocks
 unfoldable pub withSubband : ℕ → ℕ → (ℕ → ℤ) → List ℤ → List ℤ
 withSubband n s f xs = build 128 (λ k. if eqb (k % 8) s && ltb (k / 8) n then f (k / 8) else getD xs k (pos 0))
+
+-- an array of samples with those of every subband whose flag is set replaced in its first n blocks
+unfoldable pub withFlagged : ℕ → List ℕ → (ℕ → ℕ → ℤ) → List ℤ → List ℤ
+withFlagged n flags f xs = build 128 (λ k. if eqb (entry flags (k % 8)) 1 && ltb (k / 8) n then f (k / 8) (k % 8) else getD xs k (pos 0))

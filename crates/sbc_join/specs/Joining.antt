@@ -1,7 +1,7 @@
 -- How the code takes the scale factors and joint stereo of a frame, for the contracts of its inner functions alone: rows of eight, and arrays of 128
 -- samples, eight places a block. Nothing public cites this.
 -- From document 01, "Quantizing" and "Joint stereo".
-use Prim.Native.Nat.{ℕ, _+_, _/_, _%_}
+use Prim.Native.Nat.{ℕ, _+_}
 use mathlib.Core.Bool.{_&&_}
 use mathlib.Core.List.{List}
 use lib.Dec.{eqb, ltb}
@@ -12,7 +12,7 @@ use Rattle.laws.specs.Lists.{build, greatest}
 use Rattle.laws.specs.Bits.{digit}
 use Rattle.laws.specs.Integers.{floorDiv}
 use Rattle.sbc_quantizer.specs.Quantizing.{scaleFactor}
-use Rattle.sbc_frame.specs.Arrays.{sampleIn, entry}
+use Rattle.sbc_frame.specs.Arrays.{sampleIn, entry, withFlagged}
 
 -- the greatest absolute value of a subband in n blocks
 abbrev pub maximumIn : ℕ → List ℤ → ℕ → ℕ
@@ -43,6 +43,5 @@ unfoldable pub pickedRow : List ℕ → List ℕ → List ℕ → List ℕ
 pickedRow flags plain joined = build 8 (λ s. if eqb (entry flags s) 1 then entry joined s else entry plain s)
 
 -- the samples of the first n blocks, with the joined ones where a flag is set; those behind stay
-unfoldable pub pickedSamples : ℕ → List ℕ → List ℤ → List ℤ → List ℤ
-pickedSamples n flags plain joined =
-    build 128 (λ k. if eqb (entry flags (k % 8)) 1 && ltb (k / 8) n then getD joined k (pos 0) else getD plain k (pos 0))
+abbrev pub pickedSamples : ℕ → List ℕ → List ℤ → List ℤ → List ℤ
+pickedSamples n flags plain joined = withFlagged n flags (sampleIn joined) plain

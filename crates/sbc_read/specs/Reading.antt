@@ -1,12 +1,10 @@
 -- How the code of the decoder reads a frame, for the contracts of its inner functions alone: flags and scale factors in rows of eight, and the
 -- subband samples of a channel in an array of 128, eight places a block. Nothing public cites this.
 -- From document 01, "Parameters", "Quantizing" and "Joint stereo".
-use Prim.Native.Nat.{ℕ, _+_, _*_, _-_, _/_, _%_}
-use mathlib.Core.Bool.{_&&_}
+use Prim.Native.Nat.{ℕ, _+_, _*_, _-_}
 use mathlib.Core.List.{List, []}
-use lib.Dec.{eqb, ltb}
-use lib.ListN.{getD}
-use lib.IntN.{ℤ, pos}
+use lib.Dec.{ltb}
+use lib.IntN.{ℤ}
 use Rattle.laws.specs.Choice.{if_then_else_}
 use Rattle.laws.specs.Lists.{build, total}
 use Rattle.bits.specs.Fields.{numberAt}
@@ -40,10 +38,6 @@ valueOf bytes position block-bits width factor b = reconstruct (numberAt bytes (
 unfoldable pub channelValues : List ℕ → List ℕ → List ℕ → ℕ → ℕ → ℕ → List (List ℤ)
 channelValues bytes widths factors position block-bits blocks =
     build blocks (λ b. build 8 (λ s. valueOf bytes (position + total s (entry widths)) block-bits (entry widths s) (entry factors s) b))
-
--- an array of samples with those of every subband whose flag is set replaced in its first n blocks
-unfoldable pub withFlagged : ℕ → List ℕ → (ℕ → ℕ → ℤ) → List ℤ → List ℤ
-withFlagged n flags f xs = build 128 (λ k. if eqb (entry flags (k % 8)) 1 && ltb (k / 8) n then f (k / 8) (k % 8) else getD xs k (pos 0))
 
 -- the array of the samples of a frame's channel: zeros behind a block's S samples, behind the blocks, and where there is no such channel
 unfoldable pub channelArray : SbcParameters → Fields → ℕ → List ℤ

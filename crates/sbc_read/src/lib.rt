@@ -15,8 +15,8 @@ ghost use Rattle.bits.specs.Fields.{numberAt};
 ghost use Rattle.sbc_parameters.specs.Parameters.{accepted};
 ghost use Rattle.sbc_parameters.specs.Sizes.{frameLength};
 ghost use Rattle.sbc_frame.specs.Layout.{unpack};
-ghost use Rattle.sbc_frame.specs.Arrays.{withSubband, sampleIn, samplesArray, entry, Small};
-ghost use Rattle.sbc_read.specs.Reading.{rowAt, flagRow, leftFactors, rightFactors, valueOf, channelValues, withFlagged, channelArray};
+ghost use Rattle.sbc_frame.specs.Arrays.{withSubband, sampleIn, samplesArray, entry, Small, withFlagged};
+ghost use Rattle.sbc_read.specs.Reading.{rowAt, flagRow, leftFactors, rightFactors, valueOf, channelValues, channelArray};
 
 // The subband samples of both channels, with zeros behind a block's samples and behind the blocks; the second's are 0 where a frame has one.
 pub struct Samples {

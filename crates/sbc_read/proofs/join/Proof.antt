@@ -14,7 +14,7 @@ use borrow.Author.Tests.{eq-eqb, ne-eqb}
 use Rattle.laws.specs.Choice.{if_then_else_}
 use Rattle.sbc_frame.specs.Arrays.{withSubband, sampleIn, entry}
 use Rattle.sbc_frame.proofs.Columns.{length-replaced, Mixed, mixed-none, mixed-here, mixed-all, mixed-store, mixed-skip}
-use Rattle.sbc_read.proofs.Arrays.{Behind, behind-store, behind-skip, flagged-is}
+use Rattle.sbc_frame.proofs.Flagged.{Behind, behind-store, behind-skip, flagged-is}
 use Rattle.sbc_read.proofs.join.Statement.{statement}
 use Rattle.sbc_read.proofs.join.Tie as tie
 

@@ -13,7 +13,8 @@ use Rattle.sbc_frame.specs.Arrays.{withSubband, entry}
 use Rattle.sbc_frame.proofs.Positions.{total-below}
 use Rattle.sbc_frame.proofs.Blocks.{total-next}
 use Rattle.sbc_frame.proofs.Columns.{length-replaced, Mixed, mixed-none, mixed-all, mixed-store, mixed-skip}
-use Rattle.sbc_read.proofs.Arrays.{Behind, behind-store, behind-skip, channelValue, value-none, values-are}
+use Rattle.sbc_frame.proofs.Flagged.{Behind, behind-store, behind-skip}
+use Rattle.sbc_read.proofs.Arrays.{channelValue, value-none, values-are}
 use Rattle.sbc_read.proofs.read_channel.Statement.{statement}
 use Rattle.sbc_read.proofs.read_channel.Tie as tie
 
