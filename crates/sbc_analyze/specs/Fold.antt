@@ -1,5 +1,5 @@
 -- How the code of the analysis takes the sums in parts, for the contracts of its inner functions alone: entries whose cosines are equal or
--- opposite are added or subtracted first, and the history moves in two steps. Nothing public cites this.
+-- opposite are added or subtracted first, and the history moves in two steps. No call of a user's cites this.
 -- From document 01, "Filterbanks": "The Rust's folding and ring must equal these sums."
 use Prim.Native.Nat.{ℕ, _+_, _*_, _-_, _/_, _^_}
 use mathlib.Core.List.{List, _++_}

@@ -1,5 +1,5 @@
 -- What the code of the encoder codes of a frame, for the contracts of its inner functions alone: scale factors in rows of eight, and the samples of
--- each channel in an array of 128, eight places a block. Nothing public cites this.
+-- each channel in an array of 128, eight places a block. No call of a user's cites this.
 -- From document 01, "Quantizing" and "Joint stereo".
 use Prim.Native.Nat.{ℕ, _<_, _≤_}
 use mathlib.Core.Path.{_≡_}

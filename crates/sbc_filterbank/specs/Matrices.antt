@@ -1,5 +1,5 @@
 -- How the code of both directions holds the cosines of the folded sums, for the contracts of its inner functions alone: in one list, of which a
--- sum takes a part. Nothing public cites this. From document 01, "Filterbanks".
+-- sum takes a part. No call of a user's cites this. From document 01, "Filterbanks".
 use Prim.Native.Nat.{ℕ, _+_, _^_, _≤_}
 use mathlib.Core.List.{List}
 use lib.ListN.{length}

@@ -1,5 +1,5 @@
 -- How the code of both directions holds what belongs to subbands, for the contracts of its inner functions alone: a number for each subband in a
--- row of eight, and the subband samples of a channel in an array of 128, eight places a block. Nothing public cites this.
+-- row of eight, and the subband samples of a channel in an array of 128, eight places a block. No call of a user's cites this.
 -- From document 01, "Parameters", "Quantizing" and "Joint stereo".
 use Prim.Native.Nat.{ℕ, _+_, _*_, _/_, _%_, _≤_, _<_}
 use mathlib.Core.Path.{_≡_}

@@ -1,5 +1,5 @@
 -- How the code takes the scale factors and joint stereo of a frame, for the contracts of its inner functions alone: rows of eight, and arrays of 128
--- samples, eight places a block. Nothing public cites this.
+-- samples, eight places a block. No call of a user's cites this.
 -- From document 01, "Quantizing" and "Joint stereo".
 use Prim.Native.Nat.{ℕ, _+_}
 use mathlib.Core.Bool.{_&&_}

@@ -1,5 +1,5 @@
 -- How the code of the decoder plays a frame, for the contracts of its inner functions alone: the subband samples of a channel stand in an array
--- of 128, eight places a block, and a channel's PCM goes into its places of the output block by block. Nothing public cites this.
+-- of 128, eight places a block, and a channel's PCM goes into its places of the output block by block. No call of a user's cites this.
 -- From document 01, "Filterbanks" and "Parameters".
 use Prim.Native.Nat.{ℕ, zero, suc, _+_, _*_}
 use mathlib.Core.List.{List, [], _∷_}

@@ -1,5 +1,5 @@
 -- How the code of the decoder reads a frame, for the contracts of its inner functions alone: flags and scale factors in rows of eight, and the
--- subband samples of a channel in an array of 128, eight places a block. Nothing public cites this.
+-- subband samples of a channel in an array of 128, eight places a block. No call of a user's cites this.
 -- From document 01, "Parameters", "Quantizing" and "Joint stereo".
 use Prim.Native.Nat.{ℕ, _+_, _*_, _-_}
 use mathlib.Core.List.{List, []}

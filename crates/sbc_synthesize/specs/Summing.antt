@@ -1,4 +1,4 @@
--- How the code of the synthesis sums the outputs, vector by vector, for the contracts of its inner functions alone. Nothing public cites this.
+-- How the code of the synthesis sums the outputs, vector by vector, for the contracts of its inner functions alone. No call of a user's cites this.
 -- From document 01, "Filterbanks": "The Rust's folding and ring must equal these sums."
 use Prim.Native.Nat.{ℕ, _+_, _*_, _^_, _≤_, _<_}
 use mathlib.Core.Path.{_≡_}

@@ -1,4 +1,4 @@
--- What the code has written of a frame's body, for the contracts of its inner functions alone: its bits, one field after the other. Nothing public
+-- What the code has written of a frame's body, for the contracts of its inner functions alone: its bits, one field after the other. No call of a user's
 -- cites this.
 -- From document 01, "Parameters" and "Quantizing".
 use Prim.Native.Nat.{ℕ, _+_, _*_, _<_, _^_, _≤_}

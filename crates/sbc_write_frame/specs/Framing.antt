@@ -1,5 +1,5 @@
 -- A frame as the code of the encoder writes it, for the contracts of its inner functions alone: the bits of its body one field after the other, by the
--- rows and arrays that are coded. Nothing public cites this.
+-- rows and arrays that are coded. No call of a user's cites this.
 -- From document 01, "Parameters" and "Quantizing".
 use Prim.Native.Nat.{ℕ, _*_, _-_}
 use mathlib.Core.Bool.{Bool}
