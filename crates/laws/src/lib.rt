@@ -26,10 +26,7 @@ pub fn least(a: usize, b: usize) -> usize
 pub fn greater(a: u32, b: u32) -> u32
     ensures { λ r. ⌜ r ≡ max a b ⌝ }
 {
-    if a < b {
-        return b;
-    }
-    a
+    if a < b { b } else { a }
 }
 
 // A byte as a 32-bit number; its bound is what the callers' sums rest on.

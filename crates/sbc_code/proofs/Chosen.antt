@@ -25,7 +25,8 @@ use Rattle.sbc_quantizer.specs.Quantizing.{scaleFactor}
 use Rattle.sbc_quantizer.proofs.Factors.{scale-factor-le}
 use Rattle.sbc_frame.specs.Encoding.{sampleAt, factorOf, joinedAt, plainCost, joinedCost, isJoined, codedAt}
 use Rattle.sbc_frame.specs.Arrays.{sampleIn, entry}
-use Rattle.sbc_join.specs.Joining.{factorsIn, halfSums, halfDifferences, joinRow, pickedRow, pickedSamples}
+use Rattle.sbc_factors.specs.Factors.{factorsIn}
+use Rattle.sbc_join.specs.Joining.{halfSums, halfDifferences, joinRow, pickedRow, pickedSamples}
 use Rattle.sbc_frame.proofs.Flagged.{flagged-in}
 use Rattle.sbc_code.specs.declared.Coding.{Coding}
 use Rattle.sbc_code.specs.Coding.{plainCoding, joinFlags, jointCoding, codingOf, CodingRows, CodingIn, ChannelsIn}

@@ -14,7 +14,8 @@ use Rattle.sbc_parameters.specs.Sizes.{joinCount}
 use Rattle.sbc_parameters.specs.declared.SbcParameters.{SbcParameters}
 use Rattle.sbc_frame.specs.Encoding.{factorOf, isJoined, codedAt}
 use Rattle.sbc_frame.specs.Arrays.{sampleIn, entry, SamplesIn}
-use Rattle.sbc_join.specs.Joining.{factorsIn, halfSums, halfDifferences, joinRow, pickedRow, pickedSamples}
+use Rattle.sbc_factors.specs.Factors.{factorsIn}
+use Rattle.sbc_join.specs.Joining.{halfSums, halfDifferences, joinRow, pickedRow, pickedSamples}
 use Rattle.sbc_code.specs.declared.Coding.{Coding}
 
 -- the channels as they are

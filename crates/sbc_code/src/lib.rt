@@ -1,5 +1,5 @@
 // What is coded of a frame, of its channels' subband samples: join flags, scale factors and samples.
-use sbc_join::factors_of;
+use sbc_factors::factors_of;
 use sbc_join::half_differences;
 use sbc_join::half_sums;
 use sbc_join::join_flags;

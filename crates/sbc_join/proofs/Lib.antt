@@ -1,3 +1,3 @@
--- The rows of scale factors and join flags and halves of samples, as the loops make them.
-mod Factors
+-- The row of join flags and halves of samples, as the loops make them.
+mod Flags
 mod Halves

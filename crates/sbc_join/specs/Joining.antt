@@ -1,30 +1,17 @@
--- How the code takes the scale factors and joint stereo of a frame, for the contracts of its inner functions alone: rows of eight, and arrays of 128
+-- How the code takes joint stereo, for the contracts of its inner functions alone: rows of eight, and arrays of 128
 -- samples, eight places a block. No call of a user's cites this.
--- From document 01, "Quantizing" and "Joint stereo".
+-- From document 01, "Joint stereo".
 use Prim.Native.Nat.{ℕ, _+_}
 use mathlib.Core.Bool.{_&&_}
 use mathlib.Core.List.{List}
 use lib.Dec.{eqb, ltb}
 use lib.ListN.{getD}
-use lib.IntN.{ℤ, pos, natAbs, _+ℤ_, _-ℤ_}
+use lib.IntN.{ℤ, pos, _+ℤ_, _-ℤ_}
 use Rattle.laws.specs.Choice.{if_then_else_}
-use Rattle.laws.specs.Lists.{build, greatest}
+use Rattle.laws.specs.Lists.{build}
 use Rattle.laws.specs.Bits.{digit}
 use Rattle.laws.specs.Integers.{floorDiv}
-use Rattle.sbc_quantizer.specs.Quantizing.{scaleFactor}
 use Rattle.sbc_frame.specs.Arrays.{sampleIn, entry, withFlagged}
-
--- the greatest absolute value of a subband in n blocks
-abbrev pub maximumIn : ℕ → List ℤ → ℕ → ℕ
-maximumIn n xs s = greatest n (λ b. natAbs (sampleIn xs b s))
-
--- those of all subbands
-unfoldable pub maximaIn : ℕ → List ℤ → List ℕ
-maximaIn n xs = build 8 (maximumIn n xs)
-
--- the scale factor of each subband in n blocks
-unfoldable pub factorsIn : ℕ → List ℤ → List ℕ
-factorsIn n xs = build 8 (λ s. scaleFactor (maximumIn n xs s))
 
 -- both halved, then added or subtracted
 unfoldable pub halfSums : List ℤ → List ℤ → List ℤ

@@ -9,7 +9,7 @@ use Rattle.laws.specs.Lists.{build}
 use Rattle.laws.specs.Bits.{digit}
 use Rattle.sbc_frame.specs.Arrays.{below}
 use Rattle.sbc_frame.proofs.Rows.{row-none, row-next}
-use Rattle.sbc_join.proofs.Factors.{gains, flags-all}
+use Rattle.sbc_join.proofs.Flags.{gains, flags-all}
 use Rattle.sbc_join.proofs.join_flags.Statement.{statement}
 use Rattle.sbc_join.proofs.join_flags.Tie as tie
 

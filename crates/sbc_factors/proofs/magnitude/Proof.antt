@@ -13,8 +13,8 @@ use mir.Facts.{toZ-ofZ}
 use borrow.Author.Needs.{needs}
 use borrow.Author.Tests.{ltb-true}
 use Rattle.laws.proofs.Abs.{abs-sfits}
-use Rattle.sbc_join.proofs.magnitude.Statement.{statement}
-use Rattle.sbc_join.proofs.magnitude.Tie as tie
+use Rattle.sbc_factors.proofs.magnitude.Statement.{statement}
+use Rattle.sbc_factors.proofs.magnitude.Tie as tie
 
 -- an i32 is an i64
 wider : {x : ℤ} → SFits w32 x → SFits w64 x

@@ -6,11 +6,11 @@ use native.Mathlib.Omega.{arith}
 use borrow.Author.Needs.{needs}
 use Rattle.laws.specs.Lists.{build}
 use Rattle.sbc_frame.specs.Arrays.{below}
-use Rattle.sbc_join.specs.Joining.{factorsIn}
+use Rattle.sbc_factors.specs.Factors.{factorsIn}
 use Rattle.sbc_frame.proofs.Rows.{row-none, row-next, row-all}
-use Rattle.sbc_join.proofs.Factors.{factorAt, factor-of}
-use Rattle.sbc_join.proofs.factors_of.Statement.{statement}
-use Rattle.sbc_join.proofs.factors_of.Tie as tie
+use Rattle.sbc_factors.proofs.Factors.{factorAt, factor-of}
+use Rattle.sbc_factors.proofs.factors_of.Statement.{statement}
+use Rattle.sbc_factors.proofs.factors_of.Tie as tie
 
 abbrev Inv-loop : tie.InvT-loop
 Inv-loop samples blocks top factors₀ s₀ factors s = (s ≤ 8) × (factors ≡ build 8 (below s (factorAt blocks samples)))

@@ -3,10 +3,10 @@
 use Prim.Native.Nat.{ℕ, _-_, _≤_}
 use mathlib.Core.Path.{_≡_, ap, _∙_}
 use native.Mathlib.Omega.{arith}
-use Rattle.sbc_join.specs.Joining.{maximaIn}
-use Rattle.sbc_join.proofs.Factors.{maxima-none, maxima-next}
-use Rattle.sbc_join.proofs.maxima.Statement.{statement}
-use Rattle.sbc_join.proofs.maxima.Tie as tie
+use Rattle.sbc_factors.specs.Factors.{maximaIn}
+use Rattle.sbc_factors.proofs.Factors.{maxima-none, maxima-next}
+use Rattle.sbc_factors.proofs.maxima.Statement.{statement}
+use Rattle.sbc_factors.proofs.maxima.Tie as tie
 
 abbrev Inv-loop : tie.InvT-loop
 Inv-loop samples blocks top₀ block₀ top block = (block ≤ blocks) × (top ≡ maximaIn block samples)

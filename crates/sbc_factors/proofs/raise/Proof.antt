@@ -11,8 +11,8 @@ use Rattle.laws.specs.Lists.{build}
 use Rattle.laws.proofs.Abs.{read-back}
 use Rattle.sbc_frame.specs.Arrays.{below, entry, sampleIn}
 use Rattle.sbc_frame.proofs.Rows.{row-none, row-next, row-all}
-use Rattle.sbc_join.proofs.raise.Statement.{statement}
-use Rattle.sbc_join.proofs.raise.Tie as tie
+use Rattle.sbc_factors.proofs.raise.Statement.{statement}
+use Rattle.sbc_factors.proofs.raise.Tie as tie
 
 -- a subband's entry
 abbrev raised : List ℕ → List ℤ → ℕ → ℕ → ℕ

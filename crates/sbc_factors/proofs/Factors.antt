@@ -1,22 +1,16 @@
--- The rows of eight that scale factors and joint stereo ask for, filled entry by entry.
+-- The rows of eight of scale factors, filled entry by entry.
 -- Assumes nothing.
-use Prim.Native.Nat.{ℕ, _+_, _-_, _<_, max}
-use mathlib.Core.Path.{_≡_, refl, sym, ap, _∙_}
-use mathlib.Core.Bool.{Bool, _&&_}
+use Prim.Native.Nat.{ℕ, _+_, _<_, max}
+use mathlib.Core.Path.{_≡_, refl, ap, _∙_}
 use mathlib.Core.List.{List}
 use native.Mathlib.Numerals.{add-one}
-use native.Mathlib.Omega.{arith}
-use lib.Dec.{ltb}
 use lib.ListN.{replicate}
 use lib.IntN.{ℤ, natAbs}
-use borrow.Author.Tests.{lt-ltb, le-ltb, ltb-true, ltb-false}
 use Rattle.laws.specs.Lists.{build, collect, greatest}
-use Rattle.laws.specs.Bits.{digit}
-use Rattle.laws.proofs.Cases.{by-test}
 use Rattle.laws.proofs.Lists.{getD-build, build-ext}
 use Rattle.sbc_quantizer.specs.Quantizing.{scaleFactor}
-use Rattle.sbc_frame.specs.Arrays.{below, entry, sampleIn}
-use Rattle.sbc_join.specs.Joining.{maximaIn, joinRow}
+use Rattle.sbc_frame.specs.Arrays.{entry, sampleIn}
+use Rattle.sbc_factors.specs.Factors.{maximaIn}
 
 -- ---- the greatest absolute values, and the scale factors
 
@@ -51,17 +45,3 @@ factorAt n xs s = scaleFactor (greatest n (λ b. natAbs (sampleIn xs b s)))
 -- it is that of the subband's entry
 pub factor-of : (n : ℕ) (xs : List ℤ) (top : List ℕ) (s : ℕ) → top ≡ maximaIn n xs → s < 8 → scaleFactor (entry top s) ≡ factorAt n xs s
 factor-of n xs top s e h = ap scaleFactor (ap (λ (row : List ℕ). entry row s) e ∙ maximum-at n xs s h)
-
--- ---- the flags of the subbands but the last
-module _ (left right sums differences : List ℕ) where
-  -- a subband's new scale factors add to less than the old
-  abbrev pub gains : ℕ → Bool
-  gains s = ltb (entry sums s + entry differences s) (entry left s + entry right s)
-
-  pub flags-all : (S : ℕ) → 0 < S → build 8 (below (S - 1) (λ s. digit (gains s))) ≡ joinRow S left right sums differences
-  unfolding joinRow digit
-  flags-all S h =
-      build-ext 8 (below (S - 1) (λ s. digit (gains s))) (λ s. digit (ltb (s + 1) S && gains s))
-      (λ s _. by-test (λ (z : ℕ). z ≡ digit (ltb (s + 1) S && gains s)) (ltb s (S - 1)) (digit (gains s)) 0
-      (λ t. sym (rw (lt-ltb (s + 1) S (omega (arith, ltb-true s (S - 1) t)))))
-      (λ t. sym (rw (le-ltb (s + 1) S (omega (arith, ltb-false s (S - 1) t))))))

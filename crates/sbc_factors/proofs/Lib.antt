@@ -1,0 +1,2 @@
+-- The rows of scale factors, as the loops make them.
+mod Factors
