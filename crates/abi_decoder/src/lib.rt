@@ -1,5 +1,6 @@
 // A decoder as a struct of numbers, and the decoder's calls on it, by value; `sbc_abi` has them on a state that is lent. Their definitions stand in
 // specs/.
+#![tactic(auto)]
 ghost use Rattle.std.specs.Prelude.{◌≡◌};
 ghost use Rattle.sbc_decoder.specs.Decode.{new_decoder, decode};
 ghost use Rattle.sbc_seek.specs.Seek.{told_seek};
@@ -15,7 +16,7 @@ use sbc_seek::{LastParameters, SeekOutcome};
 
 // A decoder. All zeros are a new one.
 #[repr(C)]
-#[derive(Drop)]
+#[derive(Clone, Copy)]
 pub struct DecoderState {
     // Of each channel the last ten vectors of the synthesis, in a ring, and the slot of the newest.
     pub left: [i32; 160],
@@ -34,7 +35,7 @@ pub struct DecoderState {
 
 // What a seek gives back: 0 and where to go on, or the refusal's number and zeros.
 #[repr(C)]
-#[derive(Drop)]
+#[derive(Clone, Copy)]
 pub struct SeekNumbers {
     pub byte_offset: u64,
     pub skip_frames: u32,
@@ -42,14 +43,14 @@ pub struct SeekNumbers {
 }
 
 // What a decode call gives back, and the state after it.
-#[derive(Drop)]
+#[derive(Clone, Copy)]
 pub struct DecodedState {
     pub answer: CodedNumbers,
     pub state: DecoderState,
 }
 
 // What a seek gives back, and the state after it.
-#[derive(Drop)]
+#[derive(Clone, Copy)]
 pub struct SoughtState {
     pub answer: SeekNumbers,
     pub state: DecoderState,

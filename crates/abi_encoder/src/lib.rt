@@ -1,5 +1,6 @@
 // An encoder as a struct of numbers, and the encoder's calls on it, by value; `sbc_abi` has them on a state that is lent. Their definitions stand in
 // specs/.
+#![tactic(auto)]
 ghost use Rattle.std.specs.Prelude.{◌≡◌};
 ghost use Rattle.sbc_encoder.specs.Encode.{encode};
 ghost use Rattle.abi_encoder.specs.Encoder.{encoder_in, state_of, told_encode, after_encode, encode_state, create_state, reset_state};
@@ -11,7 +12,7 @@ use sbc_encoder::{Analysis, SbcEncoder};
 
 // An encoder.
 #[repr(C)]
-#[derive(Drop)]
+#[derive(Clone, Copy)]
 pub struct EncoderState {
     // The last samples of each channel, newest first.
     pub left: [i16; 80],
@@ -20,14 +21,14 @@ pub struct EncoderState {
 }
 
 // What an encode call gives back, and the state after it.
-#[derive(Drop)]
+#[derive(Clone, Copy)]
 pub struct EncodedState {
     pub answer: CodedNumbers,
     pub state: EncoderState,
 }
 
 // Whether the parameters of a new encoder are accepted, 0 or 3, and its state.
-#[derive(Drop)]
+#[derive(Clone, Copy)]
 pub struct CreatedState {
     pub refusal: u8,
     pub state: EncoderState,

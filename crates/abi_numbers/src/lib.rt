@@ -1,5 +1,6 @@
 // The numbers that cross to C, and what they stand for: parameters, and what a call gives back. No enum may cross, so the mode, the allocation and
 // a refusal are numbers here; numbers that stand for nothing are not accepted.
+#![tactic(auto)]
 ghost use Rattle.std.specs.Prelude.{◌≡◌};
 ghost use Rattle.sbc_parameters.specs.Header.{parse};
 ghost use Rattle.sbc_parameters.specs.Sizes.{frame_length, frame_samples};
@@ -13,7 +14,7 @@ use sbc_parameters::{Parsed, SbcParameters, Validated};
 
 // The parameters of a stream: the mode and the allocation by their numbers in the header.
 #[repr(C)]
-#[derive(Drop)]
+#[derive(Clone, Copy)]
 pub struct ParameterNumbers {
     pub sample_rate: u32,
     // 0 mono, 1 dual channel, 2 stereo, 3 joint stereo.
@@ -27,7 +28,7 @@ pub struct ParameterNumbers {
 
 // What a decode or encode call gives back: 0 and how much was consumed and produced, or the refusal's number and zeros.
 #[repr(C)]
-#[derive(Drop)]
+#[derive(Clone, Copy)]
 pub struct CodedNumbers {
     pub consumed: usize,
     pub produced: usize,
@@ -36,7 +37,7 @@ pub struct CodedNumbers {
 
 // What a look at a header gives back: 0 and its parameters, or the refusal's number and zeros.
 #[repr(C)]
-#[derive(Drop)]
+#[derive(Clone, Copy)]
 pub struct ParsedNumbers {
     pub parameters: ParameterNumbers,
     pub refusal: u8,

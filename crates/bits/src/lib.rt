@@ -1,31 +1,32 @@
 // Bits of a slice of bytes at a bit position, high bit first, by whole bytes.
+#![tactic(auto)]
 ghost use Rattle.std.specs.Prelude.{◌≡◌, ◌++◌, ◌+◌, ◌-◌, ◌*◌, ◌^◌, ◌<◌, ◌≤◌, min, length, take, drop};
 ghost use Rattle.laws.specs.Bits.{bits_of, number_of, bits_of_bytes};
 ghost use Rattle.bits.specs.Fields.{inside, number_at, overwritten, told_read, read_at, told_written, write_at};
 
 // What a read finds: the number, or that the bits run past the end.
-#[derive(Drop)]
+#[derive(Clone, Copy)]
 pub enum Bits {
     Value(u32),
     Incomplete,
 }
 
 // What a read finds, and the position after it.
-#[derive(Drop)]
+#[derive(Clone, Copy)]
 pub struct Read {
     pub bits: Bits,
     pub position: usize,
 }
 
 // Whether there was room for what was to be written.
-#[derive(Drop)]
+#[derive(Clone, Copy)]
 pub enum Room {
     Enough,
     BufferTooSmall,
 }
 
 // Whether there was room, and the position after the write.
-#[derive(Drop)]
+#[derive(Clone, Copy)]
 pub struct Written {
     pub room: Room,
     pub position: usize,

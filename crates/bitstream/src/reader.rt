@@ -7,7 +7,7 @@ ghost use Rattle.bitstream.specs.Held.{reader_over, read_by};
 use bits::{Bits, Read, read_at};
 
 // The bytes of a frame, and the position of the bit to be read next.
-#[derive(Drop)]
+#[derive(Clone, Copy)]
 pub struct BitReader<'a> {
     pub bytes: &'a [u8],
     pub position: usize,

@@ -1,10 +1,11 @@
 // What a codec's call gives back: how much it consumed and produced, or a refusal.
+#![tactic(auto)]
 ghost use Rattle.std.specs.Prelude.{◌≡◌};
 ghost use Rattle.codec.specs.Errors.{error_number};
 ghost use Rattle.codec.specs.Answers.{told_coded, progress_of, is_stalled, refused_after};
 
 // Why a call was refused.
-#[derive(Drop)]
+#[derive(Clone, Copy)]
 pub enum Error {
     Incomplete,
     InvalidHeader,
@@ -29,7 +30,7 @@ impl Error {
 }
 
 // How much a call consumed and produced: bytes and samples for a decoder, samples and bytes for an encoder.
-#[derive(Drop)]
+#[derive(Clone, Copy)]
 pub struct Progress {
     pub consumed: usize,
     pub produced: usize,
@@ -51,7 +52,7 @@ impl Progress {
 }
 
 // What a decode or encode call gives back.
-#[derive(Drop)]
+#[derive(Clone, Copy)]
 pub enum Coded {
     Done(Progress),
     Refused(Error),

@@ -1,4 +1,6 @@
 // Laws on integers, sums, lists and bit fields, in specs/ and proofs/, and small functions on integers and lists. Nothing here knows of audio.
+#![tactic(auto)]
+
 ghost use Rattle.std.specs.Prelude.{◌≡◌, ◌^◌, ◌<◌, ◌≤◌, min, max, ◌+ℤ◌, ◌*ℤ◌};
 ghost use Rattle.std.specs.Int.{w16, w32, w64};
 ghost use Rattle.std.proofs.Common.{SFits};

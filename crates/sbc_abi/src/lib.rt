@@ -10,6 +10,7 @@
 // elements too is not null and aligned), under 2^63 bytes; what is lent to be written overlaps nothing else that the call is lent; during the call
 // no other thread and no signal handler writes what is lent, or reads what is lent to be written; what is read is initialised. Padding
 // in a struct has no meaning and is not kept.
+#![tactic(auto)]
 mod decoder;
 mod encoder;
 

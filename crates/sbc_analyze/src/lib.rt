@@ -1,4 +1,5 @@
 // The analysis filterbank of SBC, block by block.
+#![tactic(auto)]
 pub mod analysis;
 mod matrices;
 

@@ -1,4 +1,5 @@
 // PCM to the subband samples of a frame's channels, block by block through each channel's analysis filterbank, into an array of 128, eight places a block.
+#![tactic(auto)]
 ghost use Rattle.std.specs.Prelude.{◌≡◌, ◌+◌, ◌*◌, ◌≤◌, ◌<◌, eqb, length, get_or, replicate, pos};
 ghost use Rattle.laws.specs.Choice.{if◌then◌else◌};
 ghost use Rattle.laws.specs.Lists.{build};

@@ -1,4 +1,5 @@
 // What is coded of a frame, of its channels' subband samples: join flags, scale factors and samples.
+#![tactic(auto)]
 ghost use Rattle.std.specs.Prelude.{◌≡◌, true, length};
 ghost use Rattle.sbc_parameters.specs.Parameters.{accepted};
 ghost use Rattle.sbc_code.specs.Coding.{plain_coding, joint_coding, coding_of};
@@ -8,7 +9,7 @@ use sbc_join::{half_differences, half_sums, join_flags, pick_row, pick_samples};
 use sbc_parameters::SbcParameters;
 
 // What is coded of a frame: join flags, scale factors and samples; rows of eight, and eight places a block.
-#[derive(Drop)]
+#[derive(Clone, Copy)]
 pub struct Coding {
     pub flags: [u8; 8],
     pub left_factors: [u8; 8],

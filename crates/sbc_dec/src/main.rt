@@ -2,6 +2,7 @@
 //
 // A refusal ends the program, after the samples that were decoded before it, with its number on standard error; a last frame that is cut
 // is number 1.
+#![tactic(auto)]
 ghost use Rattle.std.specs.Prelude.{◌≡◌, ◌*◌, length};
 
 use codec::{Coded, Error, Progress};
@@ -9,7 +10,7 @@ use libc::STDOUT_FILENO;
 use sbc_decoder::SbcDecoder;
 
 // The decoder, the bytes at the front of the buffer that it has not taken yet, and how far the program is.
-#[derive(Drop)]
+#[derive(Clone, Copy)]
 struct Stream {
     decoder: SbcDecoder,
     held: usize,

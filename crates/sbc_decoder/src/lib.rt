@@ -1,5 +1,6 @@
 // The SBC and mSBC decoder: its state, what its calls give back, and the calls by value; `lent` has them on a decoder that is lent. Their
 // definitions stand in specs/.
+#![tactic(auto)]
 mod lent;
 
 ghost use Rattle.std.specs.Prelude.{◌≡◌, true, List, ◌-◌, ◌*◌, ◌≤◌, eqb, ℤ, length};
@@ -20,7 +21,7 @@ use sbc_parameters::SbcParameters;
 use sbc_seek::{LastParameters, SeekOutcome, seek_request};
 
 // An SBC and mSBC decoder.
-#[derive(Drop)]
+#[derive(Clone, Copy)]
 pub struct SbcDecoder {
     pub parameters: LastParameters,
     // By channel.
@@ -32,14 +33,14 @@ pub struct SbcDecoder {
 }
 
 // What a decode call gives back, and the decoder after it.
-#[derive(Drop)]
+#[derive(Clone, Copy)]
 pub struct DecodeResult {
     pub answer: Coded,
     pub decoder: SbcDecoder,
 }
 
 // How a turn of decode went: no whole frame, a refusal, or a frame that was taken.
-#[derive(Drop)]
+#[derive(Clone, Copy)]
 pub enum Outcome {
     NoneWhole,
     Refused(Error),
@@ -47,14 +48,14 @@ pub enum Outcome {
 }
 
 // How a turn of decode went, and the decoder after it.
-#[derive(Drop)]
+#[derive(Clone, Copy)]
 pub struct TurnResult {
     pub outcome: Outcome,
     pub decoder: SbcDecoder,
 }
 
 // What a seek gives back, and the decoder after it.
-#[derive(Drop)]
+#[derive(Clone, Copy)]
 pub struct SeekResult {
     pub outcome: SeekOutcome,
     pub decoder: SbcDecoder,

@@ -3,6 +3,7 @@
 // The arguments are the sample rate in Hz, the mode (mono, dual, stereo, joint), the allocation (loudness, snr), the blocks, the subbands
 // and the bitpool; with none, they are those of HIGH_QUALITY. Samples at the end that do not fill a frame are left out. A refusal ends the
 // program, with its number on standard error; settings that are refused, or not understood, are number 3.
+#![tactic(auto)]
 mod settings;
 
 ghost use Rattle.std.specs.Prelude.{◌≡◌, ◌*◌, ◌≤◌, length};
@@ -13,7 +14,7 @@ use sbc_encoder::{EncodeResult, SbcEncoder};
 use sbc_parameters::{Parsed, SbcParameters, Validated};
 
 // The encoder, the bytes at the front of the raw buffer that it has not taken yet, and whether the program goes on.
-#[derive(Drop)]
+#[derive(Clone, Copy)]
 struct Stream {
     encoder: SbcEncoder,
     held: usize,

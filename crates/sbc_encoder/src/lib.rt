@@ -1,5 +1,6 @@
 // The SBC and mSBC encoder: its state, what its calls give back, and the calls by value; `lent` has them on an encoder that is lent. Their
 // definitions stand in specs/.
+#![tactic(auto)]
 mod lent;
 
 ghost use Rattle.std.specs.Prelude.{◌≡◌, true, ◌++◌, ◌*◌, ◌≤◌, length, drop};
@@ -14,13 +15,13 @@ use sbc_encode_frame::encode_frame;
 use sbc_parameters::{SbcParameters, Validated};
 
 // The last samples of one channel, newest first.
-#[derive(Drop)]
+#[derive(Clone, Copy)]
 pub struct Analysis {
     pub history: [i16; 80],
 }
 
 // An SBC and mSBC encoder.
-#[derive(Drop)]
+#[derive(Clone, Copy)]
 pub struct SbcEncoder {
     pub parameters: SbcParameters,
     // By channel.
@@ -29,14 +30,14 @@ pub struct SbcEncoder {
 
 // What a new encoder gives back: whether its parameters are accepted, and the encoder. One with other parameters answers every encode call with
 // InvalidParameter.
-#[derive(Drop)]
+#[derive(Clone, Copy)]
 pub struct Created {
     pub outcome: Validated,
     pub encoder: SbcEncoder,
 }
 
 // What an encode call gives back, and the encoder after it.
-#[derive(Drop)]
+#[derive(Clone, Copy)]
 pub struct EncodeResult {
     pub answer: Coded,
     pub encoder: SbcEncoder,

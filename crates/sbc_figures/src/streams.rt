@@ -14,13 +14,13 @@ use sbc_decoder::SbcDecoder;
 const NEAR: u32 = 8;
 
 // How far the samples of a file are from those that were decoded.
-#[derive(Drop)]
+#[derive(Clone, Copy)]
 struct Distance {
     differing: usize,
     farthest: u32,
 }
 
-#[derive(Drop)]
+#[derive(Clone, Copy)]
 enum Beside {
     OtherLength,
     Measured(Distance),

@@ -3,7 +3,7 @@ ghost use Rattle.std.specs.Prelude.{◌≡◌, replicate, pos};
 ghost use Rattle.sbc_filterbank.specs.Ring.{next_slot};
 
 // The last ten vectors, in a ring of ten slots; the slot `newest` holds the newest.
-#[derive(Drop)]
+#[derive(Clone, Copy)]
 pub struct Synthesis {
     pub values: [i32; 160],
     pub newest: usize,

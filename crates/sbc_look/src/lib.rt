@@ -1,5 +1,6 @@
 // A look at the input of a decoder: whether a whole frame stands in front, and whether its byte 3 holds its checksum; and what a decode call does next.
 // No state, no output.
+#![tactic(auto)]
 ghost use Rattle.std.specs.Prelude.{◌≡◌, true, eqb, length};
 ghost use Rattle.laws.specs.Answers.{gives};
 ghost use Rattle.sbc_parameters.specs.Parameters.{accepted};
@@ -10,14 +11,14 @@ use codec::Error;
 use sbc_parameters::{Parsed, SbcParameters};
 
 // A whole frame in front of the input, and whether its byte 3 holds its checksum.
-#[derive(Drop)]
+#[derive(Clone, Copy)]
 pub struct WholeFrame {
     pub parameters: SbcParameters,
     pub good: bool,
 }
 
 // What stands in front of the input.
-#[derive(Drop)]
+#[derive(Clone, Copy)]
 pub enum Front {
     // Under 3 bytes, or under one frame.
     Cut,
@@ -26,7 +27,7 @@ pub enum Front {
 }
 
 // What a decode call does next: nothing, a refusal, or it plays a frame with these parameters.
-#[derive(Drop)]
+#[derive(Clone, Copy)]
 pub enum Next {
     NoFrame,
     Refusal(Error),

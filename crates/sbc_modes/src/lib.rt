@@ -1,11 +1,12 @@
 // How a frame codes its channels and spreads its bits: the two enums of the parameters, their numbers in the header, and what a mode says.
+#![tactic(auto)]
 ghost use Rattle.std.specs.Prelude.{◌≡◌, get_or};
 ghost use Rattle.sbc_modes.specs.Modes.{channel_modes, allocations, mode_number, allocation_number, channels_of, separate, is_joint};
 ghost use Rattle.sbc_modes.specs.declared.SbcChannelMode.TheVariants.{JointStereo};
 ghost use Rattle.sbc_modes.specs.declared.SbcAllocation.TheVariants.{Snr};
 
 // How a frame codes its channels.
-#[derive(Drop)]
+#[derive(Clone, Copy)]
 pub enum SbcChannelMode {
     // One channel.
     Mono,
@@ -18,7 +19,7 @@ pub enum SbcChannelMode {
 }
 
 // How the bitpool is spread across subbands.
-#[derive(Drop)]
+#[derive(Clone, Copy)]
 pub enum SbcAllocation {
     // Weighted by a model of hearing, the usual choice.
     Loudness,

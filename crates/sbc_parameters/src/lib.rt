@@ -1,4 +1,5 @@
 // The parameters of an SBC stream: which sets are accepted, the sizes of a frame, and its header.
+#![tactic(auto)]
 ghost use Rattle.std.specs.Prelude.{◌≡◌, ◌+◌, ◌*◌, ◌<◌, ◌≤◌};
 ghost use Rattle.laws.specs.Lists.{all_of};
 ghost use Rattle.sbc_parameters.specs.Parameters.{high_quality, msbc, channels, maximum_bitpool, is_msbc, msbc_tests, field_tests};
@@ -46,7 +47,7 @@ const BLOCK_COUNTS: [u32; 4] = [4, 8, 12, 16];
 const SUBBAND_COUNTS: [u32; 2] = [4, 8];
 
 // The parameters of an SBC stream, as each frame header has them.
-#[derive(Drop)]
+#[derive(Clone, Copy)]
 pub struct SbcParameters {
     // In Hz: 16000, 32000, 44100 or 48000.
     pub sample_rate: u32,
@@ -61,14 +62,14 @@ pub struct SbcParameters {
 }
 
 // What `parse` gives back.
-#[derive(Drop)]
+#[derive(Clone, Copy)]
 pub enum Parsed {
     Parameters(SbcParameters),
     Refused(Error),
 }
 
 // What `validate` gives back.
-#[derive(Drop)]
+#[derive(Clone, Copy)]
 pub enum Validated {
     Accepted,
     Refused(Error),

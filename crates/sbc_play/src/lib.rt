@@ -1,4 +1,5 @@
 // The subband samples of a frame's channels to PCM, block by block through each channel's synthesis filterbank.
+#![tactic(auto)]
 ghost use Rattle.std.specs.Prelude.{◌≡◌, true, [], ◌∷◌, ◌++◌, ℕ, ◌+◌, ◌*◌, ◌^◌, ◌≤◌, ◌<◌, length, get_or, drop, pos, nat_abs};
 ghost use Rattle.laws.specs.Lists.{build};
 ghost use Rattle.sbc_filterbank.specs.Subbands.{Bands};

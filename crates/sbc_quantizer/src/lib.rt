@@ -1,4 +1,5 @@
 // Scale factors, the quantizer and the dequantizer of SBC's subband samples (document 01, "Quantizing").
+#![tactic(auto)]
 ghost use Rattle.std.specs.Prelude.{◌≡◌, ℕ, ◌+◌, ◌-◌, ◌/◌, ◌^◌, ◌≤◌, ◌<◌, pos, negsuc, nat_abs, ◌+ℤ◌};
 ghost use Rattle.std.specs.Int.Signed.{lt_z, quot_z};
 ghost use Rattle.laws.specs.Choice.{if◌then◌else◌};
@@ -101,7 +102,7 @@ fn cut(x: i32, bits: u32) -> i32
 }
 
 // Reconstructs the values of one subband, by a multiplication and a shift in place of the division. 0 bits give 0.
-#[derive(Drop)]
+#[derive(Clone, Copy)]
 pub struct Dequantizer {
     pub multiplier: u32,
     pub tail: u32,

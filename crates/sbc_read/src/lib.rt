@@ -1,4 +1,5 @@
 // A frame's bytes to the subband samples of its channels, in an array of 128 for each channel, eight places a block.
+#![tactic(auto)]
 ghost use Rattle.std.specs.Prelude.{◌≡◌, true, ◌++◌, ℕ, ◌+◌, ◌-◌, ◌*◌, ◌/◌, ◌^◌, ◌≤◌, ◌<◌, length, take, drop, replicate, nat_abs, ◌+ℤ◌, ◌-ℤ◌};
 ghost use Rattle.laws.specs.Bits.{number_of, bits_of_bytes};
 ghost use Rattle.laws.specs.Lists.{total};
@@ -15,14 +16,14 @@ use sbc_parameters::SbcParameters;
 use sbc_quantizer::Dequantizer;
 
 // The subband samples of both channels, with zeros behind a block's samples and behind the blocks; the second's are 0 where a frame has one.
-#[derive(Drop)]
+#[derive(Clone, Copy)]
 pub struct Samples {
     pub left: [i32; 128],
     pub right: [i32; 128],
 }
 
 // The join flags and the scale factors of a frame, in rows of eight with zeros behind them.
-#[derive(Drop)]
+#[derive(Clone, Copy)]
 struct Side {
     flags: [u8; 8],
     left: [u8; 8],

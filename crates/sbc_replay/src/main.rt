@@ -11,6 +11,7 @@
 //   Q  the decoder's set: 1 and it, or 0 and zeros
 //   A  a set, 16 scale factors: allocate. 16 bytes
 // The program ends at the end of its input, at any other byte, at a record that is cut, and at a buffer of more than 65,536 bytes or samples.
+#![tactic(auto)]
 mod numbers;
 
 ghost use Rattle.std.specs.Prelude.{◌≡◌, true, ◌*◌, ◌≤◌, length};
@@ -28,7 +29,7 @@ use sbc_seek::{LastParameters, SeekOutcome};
 const NO_SET: [u8; 9] = [0; 9];
 
 // The two codecs, and whether the program goes on.
-#[derive(Drop)]
+#[derive(Clone, Copy)]
 struct Replay {
     decoder: SbcDecoder,
     encoder: SbcEncoder,
@@ -36,7 +37,7 @@ struct Replay {
 }
 
 // The lengths of an encode or a decode request, and whether both came.
-#[derive(Drop)]
+#[derive(Clone, Copy)]
 struct Sizes {
     input: usize,
     output: usize,

@@ -1,5 +1,6 @@
 // Where decoding resumes for a position: a byte offset of the stream, and the samples that the decoder then drops. No state: what it depends on is
 // the position and the parameters of the last accepted frame.
+#![tactic(auto)]
 ghost use Rattle.std.specs.Prelude.{◌≡◌, true};
 ghost use Rattle.sbc_parameters.specs.Parameters.{accepted};
 ghost use Rattle.sbc_seek.specs.Seek.{seek_frame, request_in, first_request, seek_request, told_seek};
@@ -11,21 +12,21 @@ use sbc_parameters::{SbcParameters, Validated};
 const SYNTHESIS_HISTORY_BLOCKS: u64 = 9;
 
 // The parameters of the last accepted frame, where there was one.
-#[derive(Drop)]
+#[derive(Clone, Copy)]
 pub enum LastParameters {
     None,
     Some(SbcParameters),
 }
 
 // Where to go on feeding bytes after a seek, and the samples of each channel that the decoder then drops.
-#[derive(Drop)]
+#[derive(Clone, Copy)]
 pub struct SeekRequest {
     pub byte_offset: u64,
     pub skip_frames: u32,
 }
 
 // What a seek gives back.
-#[derive(Drop)]
+#[derive(Clone, Copy)]
 pub enum SeekOutcome {
     At(SeekRequest),
     Refused(Error),

@@ -1,6 +1,7 @@
 // The constant tables of the codec, side by side, as the Rust has them: loudness offsets, prototypes of the filterbanks, cosines.
 //
 // A constant has no contract of its own: beside each stands a function that gives it back, whose contract says which definition it is.
+#![tactic(auto)]
 ghost use Rattle.std.specs.Prelude.{◌≡◌};
 ghost use Rattle.sbc_tables.specs.Tables.{loudness_offsets, prototype, cosines};
 

@@ -1,4 +1,5 @@
 // The bits of a frame's body, written one field after the other.
+#![tactic(auto)]
 ghost use Rattle.std.specs.Prelude.{◌≡◌, ◌++◌, ℕ, ◌+◌, ◌*◌, ◌^◌, ◌≤◌, ◌<◌, length, get_or, drop};
 ghost use Rattle.laws.specs.Bits.{bits_of};
 ghost use Rattle.laws.specs.Lists.{total};
@@ -9,7 +10,7 @@ ghost use Rattle.sbc_write.specs.Writing.{bits_in, Ready, row_bits, block_bits_o
 use sbc_quantizer::quantize;
 
 // Where the next whole byte goes, and the bits that do not fill a byte yet. By value, so that it stays in registers.
-#[derive(Drop)]
+#[derive(Clone, Copy)]
 pub struct Writer {
     pub at: usize,
     pub held: u32,

@@ -1,5 +1,6 @@
 // What a program that reads a stream of any length through one buffer shares with others: reading on, keeping what is not used yet, and
 // saying why it stops.
+#![tactic(auto)]
 ghost use Rattle.std.specs.Prelude.{◌≡◌, ◌++◌, ◌+◌, ◌≤◌, length, take, drop};
 ghost use Rattle.stream.specs.Kept.{kept_count, kept};
 
