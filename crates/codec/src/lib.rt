@@ -1,5 +1,6 @@
 // What a codec's call gives back: how much it consumed and produced, or a refusal.
 #![tactic(auto)]
+
 ghost use Rattle.std.specs.Prelude.{◌≡◌};
 ghost use Rattle.codec.specs.Errors.{error_number};
 ghost use Rattle.codec.specs.Answers.{told_coded, progress_of, is_stalled, refused_after};

@@ -1,5 +1,6 @@
 // How a frame codes its channels and spreads its bits: the two enums of the parameters, their numbers in the header, and what a mode says.
 #![tactic(auto)]
+
 ghost use Rattle.std.specs.Prelude.{◌≡◌, get_or};
 ghost use Rattle.sbc_modes.specs.Modes.{channel_modes, allocations, mode_number, allocation_number, channels_of, separate, is_joint};
 ghost use Rattle.sbc_modes.specs.declared.SbcChannelMode.TheVariants.{JointStereo};
