@@ -2,6 +2,7 @@
 //
 // A constant has no contract of its own: beside each stands a function that gives it back, whose contract says which definition it is.
 #![tactic(auto)]
+
 ghost use Rattle.std.specs.Prelude.{◌≡◌};
 ghost use Rattle.sbc_tables.specs.Tables.{loudness_offsets, prototype, cosines};
 

@@ -2,12 +2,8 @@
 -- Assumes nothing.
 use mathlib.Core.Path.{refl}
 use Rattle.sbc_tables.specs.Tables.{prototype, prototype4}
-use Rattle.sbc_tables.proofs.prototype_of_4.Statement.{statement}
-use Rattle.sbc_tables.proofs.prototype_of_4.Tie as tie
+use Rattle.sbc_tables.proofs.prototype_of_4.Goals as goal
 
-returns : tie.Need-returns
+pub returns : goal.returns
 unfolding prototype prototype4
 returns c = refl
-
-pub prototype-of-4-spec : {M : Type 1} → statement M
-prototype-of-4-spec = tie.close (tie.spec returns)

@@ -2,12 +2,8 @@
 -- Assumes nothing.
 use mathlib.Core.Path.{refl}
 use Rattle.sbc_tables.specs.Tables.{loudness_offsets, loudness_offsets4}
-use Rattle.sbc_tables.proofs.loudness_offsets_of_4.Statement.{statement}
-use Rattle.sbc_tables.proofs.loudness_offsets_of_4.Tie as tie
+use Rattle.sbc_tables.proofs.loudness_offsets_of_4.Goals as goal
 
-returns : tie.Need-returns
+pub returns : goal.returns
 unfolding loudness_offsets loudness_offsets4
 returns c = refl
-
-pub loudness-offsets-of-4-spec : {M : Type 1} → statement M
-loudness-offsets-of-4-spec = tie.close (tie.spec returns)
