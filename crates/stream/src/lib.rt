@@ -1,27 +1,34 @@
 // What a program that reads a stream of any length through one buffer shares with others: reading on, keeping what is not used yet, and
 // saying why it stops.
 #![tactic(auto)]
+
 ghost use Rattle.std.specs.Prelude.{◌≡◌, ◌++◌, ◌+◌, ◌≤◌, length, take, drop};
+ghost use Rattle.std.specs.Io.KnownBytes.{Consumes};
 ghost use Rattle.stream.specs.Kept.{kept_count, kept};
 
-use libc::{STDERR_FILENO, STDIN_FILENO};
+use std::io;
+use std::io::Read;
 
-// Reads once from standard input, behind the first bytes, which are held and stay, and answers how many came: none at the end, or where a read
-// fails. Which bytes come is the outside's.
-pub fn read_on(bytes: &mut [u8], held: usize) -> usize
+// Reads once from the reader, behind the first bytes, which are held and stay, and answers how many came: none at the end, or where a read
+// fails. Those that came are the reader's next, where its bytes are known; which a program's input gives is the outside's.
+pub fn read_on<R: Read>(reader: &mut R, bytes: &mut [u8], held: usize) -> usize
     requires { held ≤ length bytes.old }
     ensures came { held + result ≤ length bytes.old }
     ensures held { take held bytes.new ≡ take held bytes.old }
     ensures length { length bytes.new ≡ length bytes.old }
+    ensures bytes { Consumes (R.remaining reader.old) (R.remaining reader.new) (take result (drop held bytes.new)) }
 {
-    read_some(&mut bytes[held..])
+    read_some(reader, &mut bytes[held..])
 }
 
-fn read_some(room: &mut [u8]) -> usize
-    ensures { result ≤ length room.old }
+fn read_some<R: Read>(reader: &mut R, room: &mut [u8]) -> usize
+    ensures came { result ≤ length room.old }
+    ensures bytes { Consumes (R.remaining reader.old) (R.remaining reader.new) (take result room.new) }
 {
-    let got = libc::read(STDIN_FILENO, room);
-    io::count(got, room)
+    match reader.read(room) {
+        Ok(count) => count,
+        Err(_) => 0,
+    }
 }
 
 // Keeps of the first `held` bytes those behind the first `used`: they move to the front. Answers how many they are.
@@ -49,7 +56,6 @@ fn to_front(bytes: &mut [u8], from: usize, count: usize)
 }
 
 // Says a refusal's number on standard error.
-pub fn report(number: u8) {
-    io::print_decimal(STDERR_FILENO, number as u64);
-    io::write_all(STDERR_FILENO, b"\n");
+pub fn report(rt: &impl Eprint, number: u8) -> io::Result<()> {
+    eprintln!(rt; "{number}")
 }
