@@ -4,7 +4,7 @@ use Prim.Native.Nat.{ℕ, zero, suc, ◌+◌, ◌-◌, ◌*◌, ◌/◌, ◌%◌
 use mathlib.Core.Path.{◌≡◌, sym, ap, ap₂, ◌∙◌, subst}
 use mathlib.Core.Bool.{Bool}
 use mathlib.Core.List.{List, [], ◌∷◌, ◌++◌, append_assoc}
-use native.Mathlib.Nat.{div-one, le-mul_of_pos_right}
+use native.Mathlib.Nat.{div-one}
 use native.Mathlib.Omega.{arith}
 use lib.ListN.{length, get_or, take, drop, set, length-drop, length-set}
 use lib.Seq.{length-take-le, take_all, set_split, split_at}
@@ -44,10 +44,6 @@ module _ (byte offset value n low : ℕ) (e : offset + n + low ≡ 8) (small : b
       length-put (bits_of 8 byte) offset n (bits_of n value) (omega (arith, length-bits_of 8 byte)) (length-bits_of n value)
       ∙ length-bits_of 8 byte in
       subst (λ (k : ℕ). number_of ys < 2 ^ k) l (number_lt ys)
-
--- each part of a sum of products is below what the sum is below
-pub parts-lt : (b s v u r t : ℕ) → 0 < u → (b * s + v) * u + r < t → (b * s < t) × (b * s + v < t) × ((b * s + v) * u < t)
-parts-lt b s v u r t hu h = let m : b * s + v ≤ (b * s + v) * u = le-mul_of_pos_right (b * s + v) hu in omega arith
 
 -- ---- one byte of many
 -- the bits of bytes with n bits of one byte changed

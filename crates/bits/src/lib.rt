@@ -1,5 +1,6 @@
 // Bits of a slice of bytes at a bit position, high bit first, by whole bytes.
 #![tactic(auto)]
+
 ghost use Rattle.std.specs.Prelude.{◌≡◌, ◌++◌, ◌+◌, ◌-◌, ◌*◌, ◌^◌, ◌<◌, ◌≤◌, min, length, take, drop};
 ghost use Rattle.laws.specs.Bits.{bits_of, number_of, bits_of_bytes};
 ghost use Rattle.bits.specs.Fields.{inside, number_at, overwritten, told_read, read_at, told_written, write_at};
