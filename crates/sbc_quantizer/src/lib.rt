@@ -1,5 +1,6 @@
 // Scale factors, the quantizer and the dequantizer of SBC's subband samples (document 01, "Quantizing").
 #![tactic(auto)]
+
 ghost use Rattle.std.specs.Prelude.{◌≡◌, ℕ, ◌+◌, ◌-◌, ◌/◌, ◌^◌, ◌≤◌, ◌<◌, pos, negsuc, nat_abs, ◌+ℤ◌};
 ghost use Rattle.std.specs.Int.Signed.{lt_z, quot_z};
 ghost use Rattle.laws.specs.Choice.{if◌then◌else◌};

@@ -6,11 +6,9 @@ use native.Mathlib.Nat.{lt_of_not-le}
 use native.Mathlib.Omega.{arith}
 use lib.Count.{count_leading_zeros, leading_top}
 use lib.Pow.{pow_mono}
-use borrow.Author.Rules.{rules}
 use Rattle.sbc_quantizer.specs.Quantizing.{scale_factor}
 use Rattle.sbc_quantizer.proofs.Factors.{scale-factor-is}
-use Rattle.sbc_quantizer.proofs.scale_factor.Statement.{statement}
-use Rattle.sbc_quantizer.proofs.scale_factor.Tie as tie
+use Rattle.sbc_quantizer.proofs.scale_factor.Goals as goal
 
 -- the exponents of a power that m reaches and of one that it does not
 between : (a b m : ℕ) → 2 ^ a ≤ m → m < 2 ^ b → a < b
@@ -39,22 +37,16 @@ factor_is m h k =
     let n : suc d.place ≡ 19 - count_leading_zeros 32 m + 13 = omega (arith, d.zeros, d.large) in
     scale-factor-is m (19 - count_leading_zeros 32 m) (omega (arith, d.small)) (λ _. rw (← e) d.reached) (λ _. rw (← n) d.above)
 
-returns : tie.Need-returns
-returns c = sym (scale-factor-is c.before.args.maximum 15 (omega arith) (λ _. c.if1.true) (λ l. absurd (omega arith)))
+pub returns-then-maximum-ge134217728 : goal.returns-then-maximum-ge134217728
+returns-then-maximum-ge134217728 c = sym (scale-factor-is c.args.maximum 15 (omega arith) (λ _. c.if-maximum-ge134217728.true) (λ l. absurd (omega arith)))
 
-sub-result : tie.Need-overflow-sub-result
-sub-result c =
-    let d = digit c.before.before.args.maximum c.if2.true c.before.if1.false in
+pub overflow_sub-result : goal.overflow_sub-result
+overflow_sub-result c =
+    let d = digit c.args.maximum c.if-maximum-ge8192.true c.if-maximum-ge134217728.false in
     omega (arith, d.zeros, d.large)
 
-cast-result : tie.Need-overflow-cast-result
-cast-result c = search rules
+pub returns-then-maximum-ge8192 : goal.returns-then-maximum-ge8192
+returns-then-maximum-ge8192 c = sym (factor_is c.args.maximum c.if-maximum-ge8192.true c.if-maximum-ge134217728.false)
 
-returns-2 : tie.Need-returns-2
-returns-2 c = sym (factor_is c.before.before.args.maximum c.if2.true c.before.if1.false)
-
-returns-3 : tie.Need-returns-3
-returns-3 c = sym (scale-factor-is c.before.before.args.maximum 0 (omega arith) (λ l. absurd (omega arith)) (λ _. c.if2.false))
-
-pub scale-factor-spec : {M : Type 1} → statement M
-scale-factor-spec = tie.close (tie.spec returns sub-result cast-result returns-2 returns-3)
+pub returns : goal.returns
+returns c = sym (scale-factor-is c.args.maximum 0 (omega arith) (λ l. absurd (omega arith)) (λ _. c.if-maximum-ge8192.false))

@@ -1,0 +1,57 @@
+-- `sbc_quantizer::raised` meets its contract: both sums fit an i64, so that they are read back from their bits, and the tests are those of `held_between`.
+-- Assumes nothing.
+use mathlib.Core.Path.{◌≡◌, sym, ap, ap₂, ◌∙◌}
+use Prim.Native.Nat.{ℕ, ◌+◌, ◌^◌, ◌<◌}
+use native.Mathlib.Nat.{le_of_lt}
+use native.Mathlib.Omega.{arith}
+use lib.Dec.{lit<}
+use lib.IntN.{ℤ, pos, ◌+ℤ◌}
+use mir.Syntax.{w32, w64}
+use mir.Val.{SFits, to_z, of_z}
+use mir.Facts.{to_z-of_z, to_z_pos, sfits_widen}
+use Rattle.laws.proofs.Abs.{abs-sfits, sum_fits}
+use Rattle.sbc_quantizer.proofs.Limits.{held_low, held_high, held-within}
+use Rattle.sbc_quantizer.proofs.raised.Goals as goal
+
+module _ (x : ℤ) (n : ℕ) (hx : SFits w32 x) (small : n < 2 ^ 32) where
+  wide : SFits w64 (to_z w32 (of_z w32 x))
+  wide = rw (to_z-of_z hx) (sfits_widen tt hx)
+
+  limit : to_z w64 n ≡ pos n
+  limit = to_z_pos w64 (omega arith)
+
+  -- the sum, and twice the limit
+  sum : to_z w64 (of_z w64 (to_z w32 (of_z w32 x))) +ℤ to_z w64 n ≡ x +ℤ pos n
+  sum = ap₂ (λ a b. a +ℤ b) (to_z-of_z wide ∙ to_z-of_z hx) limit
+
+  sum_ok : SFits w64 (to_z w64 (of_z w64 (to_z w32 (of_z w32 x))) +ℤ to_z w64 n)
+  sum_ok = rw sum (sum_fits w64 x (pos n) (abs-sfits hx) (le_of_lt small) (lit< tt))
+
+  top : to_z w64 n +ℤ to_z w64 n ≡ pos (n + n)
+  top = ap₂ (λ a b. a +ℤ b) limit limit
+
+  top_ok : SFits w64 (to_z w64 n +ℤ to_z w64 n)
+  top_ok = rw top (record { sfits = omega arith })
+
+  read_sum : to_z w64 (of_z w64 (to_z w64 (of_z w64 (to_z w32 (of_z w32 x))) +ℤ to_z w64 n)) ≡ x +ℤ pos n
+  read_sum = to_z-of_z sum_ok ∙ sum
+
+  read_top : to_z w64 (of_z w64 (to_z w64 n +ℤ to_z w64 n)) ≡ pos (n + n)
+  read_top = to_z-of_z top_ok ∙ top
+
+pub returns-then-sum-lt0 : goal.returns-then-sum-lt0
+returns-then-sum-lt0 c =
+    let s = read_sum _ _ c.ranges.sample c.ranges.limit.fits in
+    sym (ap pos (held_low _ _ (rw s at c.if-sum-lt0.true)))
+
+pub returns-then-top-sum : goal.returns-then-top-sum
+returns-then-top-sum c =
+    let s = read_sum _ _ c.ranges.sample c.ranges.limit.fits in
+    let t = read_top _ _ c.ranges.sample c.ranges.limit.fits in
+    t ∙ sym (ap pos (held_high _ _ (rw (s, t) at c.if-top-sum.true)))
+
+pub returns : goal.returns
+returns c =
+    let s = read_sum _ _ c.ranges.sample c.ranges.limit.fits in
+    let t = read_top _ _ c.ranges.sample c.ranges.limit.fits in
+    s ∙ sym (held-within _ _ (rw s at c.if-sum-lt0.false) (rw (s, t) at c.if-top-sum.false))
