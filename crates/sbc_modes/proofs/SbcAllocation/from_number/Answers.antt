@@ -10,4 +10,4 @@ unfolding allocations
 returns-in-0 c = rw c.in-0.is
 
 pub returns-in_default : goal.returns-in_default
-returns-in_default c = sym (allocation-rest _ c.in_default.in_default-own.rest.rest.1)
+returns-in_default c = sym (allocation-rest _ c.in_default.in_default-own.rest.1)

@@ -18,4 +18,4 @@ unfolding channel_modes
 returns-in-2 c = rw c.in-2.is
 
 pub returns-in_default : goal.returns-in_default
-returns-in_default c = sym (mode-rest _ c.in_default.in_default-own.rest.rest.0.0.1 c.in_default.in_default-own.rest.rest.0.1 c.in_default.in_default-own.rest.rest.1)
+returns-in_default c = sym (mode-rest _ c.in_default.in_default-own.rest.0.0.1 c.in_default.in_default-own.rest.0.1 c.in_default.in_default-own.rest.1)
