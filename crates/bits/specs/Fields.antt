@@ -1,6 +1,5 @@
 -- Bits read and written at a bit position of bytes, high bit first, 32 at a time at most. From document 01, "Bits".
-use Rattle.std.specs.Prelude.{ℕ, ◌+◌, ◌-◌, ◌*◌, ◌^◌, min, Bool, ◌&&◌, List, ◌++◌, eqb, leb, length, take, drop}
-use Rattle.laws.specs.Choice.{if◌then◌else◌}
+use Rattle.std.specs.Prelude.{ℕ, ◌+◌, ◌-◌, ◌*◌, ◌^◌, min, Bool, ◌&&◌, List, ◌++◌, eqb, leb, length, take, drop, if◌then◌else◌}
 use Rattle.laws.specs.Answers.{Told, gives, refuses}
 use Rattle.laws.specs.Bits.{bits_of, number_of, bits_of_bytes, bytes_of}
 use Rattle.bits.specs.declared.Bits.{Bits}
