@@ -10,8 +10,8 @@ use mathlib.Core.Path.{refl}
 use Prim.Native.Nat.{ℕ}
 use mathlib.Core.List.{[], ◌∷◌}
 use seplogic.Ra.Ura.{Ura}
-use seplogic.Ra.TreeShare.{full_share}
-use mir.Syntax.{Name, Fn, local, value_local, named, mut, ty_ref, ty_unit, place, deref, copy, opd_unit, rv_opd, assign, seq, call, return}
+use base.Fraction.{full_share}
+use mir.Syntax.{Callee, Fn, local, value_local, named, mut, ty_ref, ty_unit, place, deref, copy, opd_unit, rv_opd, assign, seq, call, return}
 use mir.Val.{Val, vptr}
 use base.Logic.{SProp, ent, emp, snd∗, ex_e, id⊢}
 use base.Fml.{GName, Lft, Share, ftrue, flft}
@@ -35,7 +35,6 @@ use denote.Triple.Statement.{Triple}
 use denote.Triple.Call.{calls_at}
 use denote.Triple.Clauses.{Ended, Clauses, ensured, lasts}
 use denote.Triple.Entry.{on_entry}
-use denote.Builtin.{unit}
 use denote.Exit.{yes}
 use denote.Struct.Declared as SD
 use denote.Struct.Struct.{layout}
@@ -43,7 +42,7 @@ use Rattle.lending.proofs.Types.{Struct, state-row}
 use Rattle.lending.proofs.Bare.{signature, ended, stayed, goes, clauses, arg, at, Post, exits, walks}
 use Rattle.lending.proofs.Form.{Form, IsThin, Core, Theorem, theorem}
 
-module _ (T : Struct) (#core : Name) (Says : T.type.D → T.type.D → Type 0) where
+module _ (T : Struct) (#core : Callee) (Says : T.type.D → T.type.D → Type 0) where
   -- the signature and the contract of the core
   abbrev core-signature : Signature
   core-signature = record {
@@ -68,6 +67,8 @@ module _ (T : Struct) (#core : Name) (Says : T.type.D → T.type.D → Type 0) w
   function = record {
     lifetimes = 1;
     outlives = [];
+    ty_params = [];
+    givens = 0;
     params = 1;
     locals =
         local ty_unit value_local

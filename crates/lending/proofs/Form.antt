@@ -3,7 +3,7 @@
 -- Assumes nothing.
 use mathlib.Core.Path.{◌≡◌}
 use seplogic.Ra.Ura.{Ura}
-use mir.Syntax.{Name, Fn}
+use mir.Syntax.{Callee, Fn}
 use base.Logic.{SProp}
 use prog.Memory.{Memory}
 use prog.Model.{Model}
@@ -25,7 +25,7 @@ pub record Form : Type 2 where
   pub lent : Ended
   pub lent-clauses : {M : Type 1} (𝓤 : Ura M) → Clauses 𝓤 lent
   pub stays : Stays lent.signature.params lent.kept
-  pub #core : Name
+  pub #core : Callee
   pub function : Fn
 
 module _ (F : Form) where
@@ -53,7 +53,7 @@ module _ (F : Form) where
 
   -- the call's theorem, of the core's: in any table of routines where the one stands by its code, and the other by its own
   abbrev pub Theorem : {M : Type 1} → Ura M → Type 2
-  Theorem 𝓤 = (𝓛 : Logic 𝓤) (𝓜 : Model 𝓤 𝓛.H) (𝓡 : Running 𝓤 𝓛.H 𝓜) (γ : Env) (#lent : Name) (r : Routine)
+  Theorem 𝓤 = (𝓛 : Logic 𝓤) (𝓜 : Model 𝓤 𝓛.H) (𝓡 : Running 𝓤 𝓛.H 𝓜) (γ : Env) (#lent : Callee) (r : Routine)
       → Closed 𝓤 𝓛.H (tables 𝓤 𝓛.H 𝓜 𝓡 γ).C (tables 𝓤 𝓛.H 𝓜 𝓡 γ).Λ #lent F.function → γ F.#core ≡ r → Triple 𝓤 (𝓡.run r) (Core 𝓛)
       → Triple 𝓤 ((tables 𝓤 𝓛.H 𝓜 𝓡 γ).C #lent) (Lent 𝓛)
 

@@ -9,8 +9,8 @@ use mathlib.Core.Path.{refl}
 use Prim.Native.Nat.{ℕ}
 use mathlib.Core.List.{[], ◌∷◌}
 use seplogic.Ra.Ura.{Ura}
-use seplogic.Ra.TreeShare.{full_share}
-use mir.Syntax.{Name, Fn, local, value_local, named, mut, ty_ref, ty_unit, place, deref, copy, opd_unit, rv_opd, assign, seq, call, return}
+use base.Fraction.{full_share}
+use mir.Syntax.{Callee, Fn, local, value_local, named, mut, ty_ref, ty_unit, place, deref, copy, opd_unit, rv_opd, assign, seq, call, return}
 use mir.Val.{vptr}
 use base.Logic.{SProp, ent, emp, snd∗, ex_e, id⊢}
 use base.Fml.{GName, Lft, Share, ftrue, flft}
@@ -40,7 +40,7 @@ use Rattle.lending.proofs.Types.{Struct, state-row}
 use Rattle.lending.proofs.Bare.{signature, ended, stayed, goes, clauses, arg, at, Post, exits, walks}
 use Rattle.lending.proofs.Form.{Form, IsThin, Core, Theorem, theorem}
 
-module _ (T : Struct) (#core : Name) (Made : T.type.D → Type 0) where
+module _ (T : Struct) (#core : Callee) (Made : T.type.D → Type 0) where
   -- the signature and the contract of the core
   abbrev core-signature : Signature
   core-signature = record { lifetimes = 0; outlives = []; params = []; result = plain (λ _. state-row T) }
@@ -60,6 +60,8 @@ module _ (T : Struct) (#core : Name) (Made : T.type.D → Type 0) where
   function = record {
     lifetimes = 1;
     outlives = [];
+    ty_params = [];
+    givens = 0;
     params = 1;
     locals =
         local ty_unit value_local

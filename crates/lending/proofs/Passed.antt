@@ -12,8 +12,8 @@ use mathlib.Core.Path.{refl, ap}
 use Prim.Native.Nat.{ℕ}
 use mathlib.Core.List.{[], ◌∷◌, List}
 use seplogic.Ra.Ura.{Ura}
-use seplogic.Ra.TreeShare.{full_share}
-use mir.Syntax.{Name, Fn, local, value_local, named, mut, ty_ref, place, field, deref, copy, rv_opd, assign, seq, call, return}
+use base.Fraction.{full_share}
+use mir.Syntax.{Callee, Fn, local, value_local, named, mut, ty_ref, place, field, deref, copy, rv_opd, assign, seq, call, return}
 use mir.Val.{Val, vptr}
 use base.Logic.{SProp, ent, sep, emp, via, fst∗, snd∗, ex_e, id⊢}
 use base.Fml.{GName, Lft, Share, ftrue, flft, fobs, fbor, fat}
@@ -47,7 +47,7 @@ use denote.Struct.Struct.{layout}
 use Rattle.lending.proofs.Types.{Struct, Value, Of, Passed, Result, state-row, value_row, value-val, value-vals, value_tells, value-makes, value-lawful, result-type, result-laws, result_row, answer-is, state-is}
 use Rattle.lending.proofs.Form.{Form, IsThin, Core, Theorem, theorem}
 
-module _ (T : Struct) (N : Passed) (O : Value) (S : Result O T) (#core : Name) (Says : T.type.D → Of N.value → Of O → T.type.D → Type 0) where
+module _ (T : Struct) (N : Passed) (O : Value) (S : Result O T) (#core : Callee) (Says : T.type.D → Of N.value → Of O → T.type.D → Type 0) where
   -- the signature and the contract of the core, and of the call
   abbrev core-signature : Signature
   core-signature = record {
@@ -90,6 +90,8 @@ module _ (T : Struct) (N : Passed) (O : Value) (S : Result O T) (#core : Name) (
   function = record {
     lifetimes = 1;
     outlives = [];
+    ty_params = [];
+    givens = 0;
     params = 2;
     locals =
         local O.mir value_local
@@ -97,13 +99,15 @@ module _ (T : Struct) (N : Passed) (O : Value) (S : Result O T) (#core : Name) (
         ∷ local N.value.mir value_local
         ∷ local (layout (SD.shape (result-type S))) value_local
         ∷ local (layout (SD.shape T.type)) value_local
+        ∷ local (layout (SD.shape T.type)) value_local
         ∷ [];
     body =
         seq (assign (place 4 []) (rv_opd (copy (place 1 (deref (layout (SD.shape T.type)) ∷ [])))))
         (seq (call #core (copy (place 4 []) ∷ copy (place 2 []) ∷ []) (place 3 []))
-        (seq (assign (place 1 (deref (layout (SD.shape T.type)) ∷ [])) (rv_opd (copy (place 3 (field 1 ∷ [])))))
+        (seq (assign (place 5 []) (rv_opd (copy (place 3 (field 1 ∷ [])))))
+        (seq (assign (place 1 (deref (layout (SD.shape T.type)) ∷ [])) (rv_opd (copy (place 5 []))))
         (seq (assign (place 0 []) (rv_opd (copy (place 3 (field 0 ∷ [])))))
-        return)));
+        return))));
   }
 
   abbrev Arg : Type 0
@@ -178,42 +182,45 @@ module _ (T : Struct) (N : Passed) (O : Value) (S : Result O T) (#core : Name) (
           fsplit ! $ fsplit3 ! $ drop ! $ move ! (0 ∷ 1 ∷ 3 ∷ []) $
           -- [obs; the borrow; the token; what the value owns; true]
           enter ! C Λ function (vptr b o ∷ value-val N.value n ∷ []) _ $
-          alloc1 ! (λ l₀. alloc1 ! (λ l₁. alloc1 ! (λ l₂. alloc1 ! (λ l₃. alloc1 ! (λ l₄. alloc0 ! $ params1 ! $ pass1 ! (init ! 6 refl (tt, tt)) $
-          pass1 ! (init ! 4 refl ((value-lawful N.value 𝓛).typed n _ n-is).0) $ pass0 ! $
+          alloc1 ! (λ l₀. alloc1 ! (λ l₁. alloc1 ! (λ l₂. alloc1 ! (λ l₃. alloc1 ! (λ l₄. alloc1 ! (λ l₅. alloc0 ! $ params1 ! $
+          pass1 ! (init ! 8 refl (tt, tt)) $
+          pass1 ! (init ! 6 refl ((value-lawful N.value 𝓛).typed n _ n-is).0) $ pass0 ! $
           -- the borrow is opened, and the struct is copied out
-          move ! (10 ∷ 11 ∷ 12 ∷ []) $ opens ! tt (state-row T) {h = h} b o (λ vs.
+          move ! (12 ∷ 13 ∷ 14 ∷ []) $ opens ! tt (state-row T) {h = h} b o (λ vs.
           spelt ! (state-row T) (Is (state-row T)) (shows 𝓛 (state-row T)) (LL.vals T.type T.laws) (LL.tells T.type
           T.laws) full_share h vs b o $
           move ! (1 ∷ []) $ peeks ! (state-row T) (Is (state-row T)) (shows 𝓛 (state-row T)) h (mach ∷ []) (λ was. move ! (1 ∷ 0 ∷ []) $
-          -- [the struct's cell; what the state owns; the open borrow; obs; auth; _4; …; _3; …; _2; …; _1; …; room for _0; …]
-          assigns ! (of_opd ! (load ! (from ! (hop ! (look ! 11 refl) (stop !))) (look_raw ! 0 refl))) (from ! (stop !)) (init ! 5 refl
+          -- [the struct's cell; what the state owns; the open borrow; obs; auth; _5; …; _4; …; _3; …; _2; …; _1; …; room for _0; …]
+          assigns ! (of_opd ! (load ! (from ! (hop ! (look ! 13 refl) (stop !))) (look_raw ! 0 refl))) (from ! (stop !)) (init ! 7 refl
           ((LL.lawful T.type T.laws 𝓛).typed h _ was).0) $
           -- the core is called: what the state owns goes to it
           move ! (1 ∷ []) $ use1 𝓛 (raw ((Core form 𝓛).pre to-core)) goes-core $
-          calls_at ! fm (Core form 𝓛) known to-core (and_then ! (load ! (from ! (stop !)) (look ! 5 refl))
-          (and_then ! (load ! (from ! (stop !)) (look ! 9 refl)) (no_more !))) (λ w.
+          calls_at ! fm (Core form 𝓛) known to-core (and_then ! (load ! (from ! (stop !)) (look ! 7 refl))
+          (and_then ! (load ! (from ! (stop !)) (look ! 11 refl)) (no_more !))) (λ w.
           use1 𝓛 (later (some (λ (r : S.D). (‵ ftrue ⊛ ‵ ((result_row S).own_val r (w ∷ []))) ⊛ raw
           (ensured 𝓛 core-ended (core-clauses 𝓤) tt (h, (n, tt)) tt r)))) (id⊢ 𝓤 _) $ await ! tt $ pick ! (λ r.
           split ! $ move ! (1 ∷ []) $ use1 𝓛 (raw (fact 𝓤 (Says h n (S.answer r) (S.state r)))) (core-of 𝓛 h n r) $
           heard ! (Says h n (S.answer r) (S.state r)) (λ e. split ! $ drop ! $
           peeks ! (result_row S) (Is (result_row S)) (shows 𝓛 (result_row S)) r (w ∷ []) (λ is.
-          land ! (from ! (stop !)) (init ! 7 refl ((LL.lawful (result-type S) (result-laws S) 𝓛).typed r _ is).0) $
-          rewrite ! 7 (λ (u : Val). ‵ (fat full_share (layout (SD.shape (result-type S))) l₃ 0 u)) (ap only
+          land ! (from ! (stop !)) (init ! 9 refl ((LL.lawful (result-type S) (result-laws S) 𝓛).typed r _ is).0) $
+          rewrite ! 9 (λ (u : Val). ‵ (fat full_share (layout (SD.shape (result-type S))) l₃ 0 u)) (ap only
           (LL.tells (result-type S) (result-laws S) r (w ∷ []) is)) refl $
-          -- [what the core returned owns; the struct's cell; the open borrow; obs; auth; _4; …; _3; …; _2; …; _1; …; room for _0; …]
-          assigns ! (of_opd ! (load ! (from ! (fld ! refl (stop !))) (look_in ! 7 (sub ! 1 refl (whole !))))) (from !
-          (hop ! (look ! 11 refl) (stop !))) (store_raw ! 1 refl ((LL.lawful T.type T.laws 𝓛).typed (S.state r) _
-          (state-is S r w is)).0) $
-          assigns ! (of_opd ! (load ! (from ! (fld ! refl (stop !))) (look_in ! 7 (sub ! 0 refl (whole !))))) (from ! (stop !)) (init ! 13 refl
+          -- [what the core returned owns; the struct's cell; the open borrow; obs; auth; _5; …; _4; …; _3; …; _2; …; _1; …; room for _0; …]
+          assigns ! (of_opd ! (load ! (from ! (fld ! refl (stop !))) (look_in ! 9 (sub ! 1 refl (whole !))))) (from ! (stop !)) (init ! 5 refl
+          ((LL.lawful T.type T.laws 𝓛).typed (S.state r) _ (state-is S r w is)).0) $
+          assigns ! (of_opd ! (load ! (from ! (stop !)) (look ! 5 refl))) (from ! (hop ! (look ! 13 refl) (stop !))) (store_raw ! 1 refl
+          ((LL.lawful T.type T.laws 𝓛).typed (S.state r) _ (state-is S r w is)).0) $
+          assigns ! (of_opd ! (load ! (from ! (fld ! refl (stop !))) (look_in ! 9 (sub ! 0 refl (whole !))))) (from ! (stop !)) (init ! 15 refl
           ((value-lawful O 𝓛).typed (S.answer r) _ (answer-is S r w is)).0) $
           -- the borrow is closed at the state that the core returned
           owned ! (state-row T) (Is (state-row T)) (LL.makes T.type T.plain 𝓛) (S.state r) _ (state-is S r w is) $
           move ! (2 ∷ 0 ∷ 3 ∷ 4 ∷ 5 ∷ []) $ closes ! tt (state-row T) (S.state r) (LL.vals T.type T.laws (S.state r)) b o $
-          -- [obs; the borrow; the token; what the core returned owns; _4; …; _3; …; _2; …; _1; …; _0; …]
-          returns ! (look ! 12 refl) $ forget ! 4 refl $ forget ! 6 refl $ forget ! 8 refl $ forget ! 10 refl $ forget ! 12 refl $
-          move ! (12 ∷ 13 ∷ []) $ free1 ! $ move ! (10 ∷ 11 ∷ []) $ free1 ! $ move ! (8 ∷ 9 ∷ []) $ free1 ! $ move ! (6 ∷ 7 ∷ []) $ free1 ! $
-          move ! (4 ∷ 5 ∷ []) $ free1 ! $ free0 ! $
-          keep ! (0 ∷ 1 ∷ 2 ∷ []) $ by ! (exits r w is e))))))))))))
+          -- [obs; the borrow; the token; what the core returned owns; _5; …; _4; …; _3; …; _2; …; _1; …; _0; …]
+          returns ! (look ! 14 refl) $ forget ! 4 refl $ forget ! 6 refl $ forget ! 8 refl $ forget ! 10 refl $ forget ! 12 refl $
+          forget ! 14 refl $
+          move ! (14 ∷ 15 ∷ []) $ free1 ! $ move ! (12 ∷ 13 ∷ []) $ free1 ! $ move ! (10 ∷ 11 ∷ []) $ free1 ! $
+          move ! (8 ∷ 9 ∷ []) $ free1 ! $ move ! (6 ∷ 7 ∷ []) $ free1 ! $ move ! (4 ∷ 5 ∷ []) $ free1 ! $ free0 ! $
+          keep ! (0 ∷ 1 ∷ 2 ∷ []) $ by ! (exits r w is e)))))))))))))
 
   module _ {M : Type 1} {𝓤 : Ura M} (𝓛 : Logic 𝓤) where
     open 𝓛 use {H}

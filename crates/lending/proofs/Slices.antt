@@ -7,19 +7,18 @@
 -- It says of its answer, of the state at exit and of the output at exit what `core` says of what it gives back and of the output at exit.
 -- A walk of its MIR, by hand, for any state, answer and elements. The borrow is opened, the struct is copied out and passed by value beside
 -- the two slices, and the borrow is closed at the state that the core gave back. No field of the state is named: it is read whole and written
--- whole. The input is Copy, and one copy is kept for the exit. The output goes to the core for good, at its own lifetime, and what says its
--- last list comes back.
+-- whole. Both slices go to the core for good, the output at its own lifetime, and what says its last list comes back.
 -- Assumes nothing.
 use mathlib.Core.Path.{◌≡◌, refl, ap}
 use Prim.Native.Nat.{ℕ}
 use mathlib.Core.List.{[], ◌∷◌, List}
 use lib.ListN.{length}
 use seplogic.Ra.Ura.{Ura}
-use seplogic.Ra.TreeShare.{full_share}
-use mir.Syntax.{Name, Fn, local, value_local, named, erased, imm, mut, ty_ref, place, field, deref, copy, rv_opd, addr_of, aggregate, assign, seq, call, return}
+use base.Fraction.{full_share}
+use mir.Syntax.{Callee, Fn, local, value_local, named, erased, imm, mut, ty_ref, place, field, deref, copy, rv_opd, addr_of, aggregate, assign, seq, call, return}
 use mir.Val.{Val, vptr}
 use base.Logic.{SProp, ent, emp, via, fst∗, id⊢}
-use base.Fml.{GName, Lft, Share, Fml, ftrue, flft, fobs, fbor, fat}
+use base.Fml.{GName, Lft, Share, Fml, ftrue, fsep, flft, fobs, fbor, fat}
 use prog.Memory.{Memory}
 use prog.Routine.{Routine}
 use prog.Wp.{Calls, Loops, WpFn}
@@ -28,15 +27,16 @@ use contract.Monad.{Fun, fact}
 use types.Kit.{Item, ‵, raw, ◌⊛◌, ⋆, some, later, ◌$◌, ◌∵◌, !, qed, by, move, keep, drop, rewrite, use1, use2, split, join, pick, await, fsplit, fsplit3, fjoin, fjoin3, feq_i, feq_l, suffices, frame, done}
 use types.Part.{agg, whole, sub, look_in}
 use types.Run.{look, look_raw, init, store_raw, forget, stop, hop, fld, from, load, addr, of_opd, and_then, no_more, assigns, land, returns, enter, alloc1, alloc0, params1, pass1, pass0, free1, free0}
-use types.SemTy.{Body}
+use types.SemTy.{Body, Arr}
+use types.Hole.{Holey}
 use sound.WpLaws.{FmC}
 use denote.RattleType.{RattleType, owns}
 use denote.Laws.{Is, shows}
 use denote.Memory.{mem, pointee}
 use denote.Builtin.{One, RefMutOf, SliceRefOf, SliceRefMutOf}
-use denote.Ref.{Bor, MutBor, MutRef, shr_vals, mut_Tells}
+use denote.Ref.{Bor, MutBor, MutRef, mut_vals, mut_Tells}
 use denote.Signature.{Signature, plain}
-use denote.Slice.{slice_val, slice_ty, ShrSlice, MutSlice, Room, finally, shr_slice_vals, shr_slice_Tells, shr_slice_Lawful, shr_slice_copy, mut_slice_Tells}
+use denote.Slice.{slice_val, slice_ty, ShrSlice, MutSlice, Room, finally, shr_slice_vals, shr_slice_Tells, shr_slice_Lawful, mut_slice_vals, mut_slice_Tells}
 use denote.Steps.{opens, closes, owned, peeks, heard, nothing, only}
 use denote.Struct.Steps.{spelt}
 use denote.Struct.Laws as LL
@@ -44,15 +44,15 @@ use denote.Triple.Statement.{Triple}
 use denote.Triple.Call.{calls_at}
 use denote.Triple.Clauses.{Ended, Clauses, Lasts, ensured, lasts}
 use denote.Triple.Entry.{on_entry}
-use denote.Triple.Walked.{says, Stays, stay_ref, stay_none_slice, gave_slice, walk_of, AllGo, Goes-ref, Goes-none_slice, Goes-gave_slice, Walks, ends_at, walked}
+use denote.Triple.Walked.{says, Stays, stay_ref, stay_dropped, gave_slice, walk_of, AllGo, Goes-ref, Goes-dropped, Goes-gave_slice, Walks, ends_at, walked}
 use denote.Exit.{yes}
 use denote.Struct.Declared as SD
 use denote.Struct.Struct.{layout}
 use Rattle.lending.proofs.Types.{Struct, Value, Of, Result, state-row, value_row, value-val, value-makes, value-lawful, result-type, result-laws, result_row, answer-is, state-is}
 use Rattle.lending.proofs.Form.{Form, IsThin, Core, Theorem, theorem}
 
-module _ (T : Struct) (O : Value) (S : Result O T) (X : RattleType) (one_in : One X.mir) (Y : RattleType) (one_out : One Y.mir) (#core : Name)
-    (Says : T.type.D → List X.Denot → List Y.Denot → Of O → T.type.D → List Y.Denot → Type 0) where
+module _ (T : Struct) (O : Value) (S : Result O T) (X : RattleType) (one_in : One X.mir) (Y : RattleType) (one_out : One Y.mir)
+    (#core : Callee) (Says : T.type.D → List X.Denot → List Y.Denot → Of O → T.type.D → List Y.Denot → Type 0) where
   -- the signature and the contract of the core, and of the call
   abbrev core-signature : Signature
   core-signature = record {
@@ -97,6 +97,8 @@ module _ (T : Struct) (O : Value) (S : Result O T) (X : RattleType) (one_in : On
   function = record {
     lifetimes = 3;
     outlives = [];
+    ty_params = [];
+    givens = 0;
     params = 3;
     locals =
         local O.mir value_local
@@ -107,24 +109,26 @@ module _ (T : Struct) (O : Value) (S : Result O T) (X : RattleType) (one_in : On
         ∷ local (layout (SD.shape T.type)) value_local
         ∷ local (ty_ref erased mut (pointee Y.written)) value_local
         ∷ local (slice_ty (ty_ref erased mut (pointee Y.written))) value_local
+        ∷ local (layout (SD.shape T.type)) value_local
         ∷ [];
     body =
         seq (assign (place 5 []) (rv_opd (copy (place 1 (deref (layout (SD.shape T.type)) ∷ [])))))
         (seq (assign (place 6 []) (addr_of (place 3 (field 0 ∷ deref (pointee Y.written) ∷ []))))
         (seq (assign (place 7 []) (aggregate (copy (place 6 []) ∷ copy (place 3 (field 1 ∷ [])) ∷ [])))
         (seq (call #core (copy (place 5 []) ∷ copy (place 2 []) ∷ copy (place 7 []) ∷ []) (place 4 []))
-        (seq (assign (place 1 (deref (layout (SD.shape T.type)) ∷ [])) (rv_opd (copy (place 4 (field 1 ∷ [])))))
+        (seq (assign (place 8 []) (rv_opd (copy (place 4 (field 1 ∷ [])))))
+        (seq (assign (place 1 (deref (layout (SD.shape T.type)) ∷ [])) (rv_opd (copy (place 8 []))))
         (seq (assign (place 0 []) (rv_opd (copy (place 4 (field 0 ∷ [])))))
-        return)))));
+        return))))));
   }
 
   abbrev Arg : Type 0
-  Arg = Bor T.type.D × (Bor (List X.Denot) × (Bor (List Y.Denot) × Unit {0}))
+  Arg = MutBor T.type.D × (Bor (List X.Denot) × (MutBor (List Y.Denot) × Unit {0}))
 
   abbrev stayed : Stays lent-ended.signature.params lent-ended.kept
   stayed = (
     stay_ref (0 ∷ []) tt (plain (λ _. state-row T)),
-    (stay_none_slice (1 ∷ []) tt (plain (λ _. X)) yes, (gave_slice (2 ∷ []) tt (plain (λ _. Y)), tt)),
+    (stay_dropped (SliceRefOf (1 ∷ []) tt (plain (λ _. X)) (λ _. one_in)) yes, (gave_slice (2 ∷ []) tt (plain (λ _. Y)), tt)),
   )
 
   abbrev form : Form
@@ -143,7 +147,7 @@ module _ (T : Struct) (O : Value) (S : Result O T) (X : RattleType) (one_in : On
   Thin = IsThin form
 
   module _ {M : Type 1} {𝓤 : Ura M} (𝓛 : Logic 𝓤) (κ κ₁ κ₂ : Lft) (q q₁ q₂ : Share) (b o : ℕ) (γ : GName)
-      (h : T.type.D) (xi : MutBor (List X.Denot)) (xo : MutBor (List Y.Denot)) where
+      (h : T.type.D) (xi : Bor (List X.Denot)) (xo : MutBor (List Y.Denot)) where
     open 𝓛 use {H}
 
     abbrev x : Arg
@@ -166,8 +170,10 @@ module _ (T : Struct) (O : Value) (S : Result O T) (X : RattleType) (one_in : On
     abbrev Toks : Item 𝓤
     Toks = ‵ (flft κ₁ q₁) ⊛ ‵ (flft κ₂ q₂) ⊛ ‵ ftrue
 
-    abbrev In : Fml
-    In = (ShrSlice (named 1) κ₁ X).own_val xi (vi ∷ [])
+    -- of the output what says its last list, and its borrow
+    abbrev Last : List Y.Denot → Fml
+    Last zs = fsep (finally Y xo.ghost_name zs)
+        (fbor κ₂ (Body (Arr (Holey (mem Y)) (length xo.now)) xo.ref_ptr.0 xo.ref_ptr.1 xo.ghost_name))
 
     abbrev Post : Val → SProp 𝓤
     Post = (walk_of 𝓛 lent-ended stayed (lent-clauses 𝓤)).post (((κ, (κ₁, (κ₂, tt))), (q, (q₁, (q₂, tt))), tt, x, at), tt)
@@ -187,16 +193,16 @@ module _ (T : Struct) (O : Value) (S : Result O T) (X : RattleType) (one_in : On
 
     exits : (r : S.D) (w : Val) (zs : List Y.Denot) → Is (result_row S) r (w ∷ []) → Said r zs → length zs ≡ length xo.now
         → ent 𝓤 (⋆ 𝓛 (‵ (fobs γ ((state-row T).coded.code (S.state r))) ∷ ‵ (fbor κ
-        (Body (mem (state-row T)) b o γ)) ∷ ‵ (flft κ q) ∷ Toks ∷ ‵ In ∷ ‵ (finally Y xo.name zs) ∷ [])) (Post (value-val O (S.answer r)))
+        (Body (mem (state-row T)) b o γ)) ∷ ‵ (flft κ q) ∷ Toks ∷ ‵ (Last zs) ∷ [])) (Post (value-val O (S.answer r)))
     exits r w zs is e l =
         qed 𝓛 (‵ (fobs γ ((state-row T).coded.code (S.state r))) ∷ ‵ (fbor κ
-        (Body (mem (state-row T)) b o γ)) ∷ ‵ (flft κ q) ∷ Toks ∷ ‵ In ∷ ‵ (finally Y xo.name zs) ∷ []) ∵
+        (Body (mem (state-row T)) b o γ)) ∷ ‵ (flft κ q) ∷ Toks ∷ ‵ (Last zs) ∷ []) ∵
         suffices ! _ (ends_at 𝓛 lent-ended stayed (lent-clauses 𝓤) (((κ, (κ₁, (κ₂, tt))), (q, (q₁, (q₂, tt))), tt, x, at), tt)
         (value-val O (S.answer r)) (S.answer r) (S.state r, (tt, (zs, tt))) (tt, (tt, (l, tt)))) $
         says ! e $
         move ! (2 ∷ 3 ∷ []) $ join ! $ frame ! $ feq_i ! (List Val) (vptr b o ∷ []) (vptr b o ∷ []) refl $ fjoin3 ! $
-        -- [the state's reference; the input; the output's last list]
-        nothing ! $ move ! (3 ∷ 0 ∷ []) $ fjoin ! $ move ! (2 ∷ 0 ∷ []) $ fjoin ! $ move ! (1 ∷ 0 ∷ []) $ fjoin ! $
+        -- [the state's reference; the output's last list]
+        nothing ! $ move ! (2 ∷ 0 ∷ []) $ fjoin ! $ nothing ! $ fjoin ! $ move ! (1 ∷ 0 ∷ []) $ fjoin ! $
         owned ! (value_row O) (Is (value_row O)) (value-makes O 𝓛) (S.answer r) _ (answer-is S r w is) $
         move ! (1 ∷ 0 ∷ []) $ done !
 
@@ -210,32 +216,30 @@ module _ (T : Struct) (O : Value) (S : Result O T) (X : RattleType) (one_in : On
           -- [obs; the borrow; its token; what the slices own; their tokens]
           enter ! C Λ function (vptr b o ∷ vi ∷ vo ∷ []) _ $
           alloc1 ! (λ l₀. alloc1 ! (λ l₁. alloc1 !
-          (λ l₂. alloc1 ! (λ l₃. alloc1 ! (λ l₄. alloc1 ! (λ l₅. alloc1 ! (λ l₆. alloc1 ! (λ l₇. alloc0 ! $ params1 ! $
-          pass1 ! (init ! 12 refl (tt, tt)) $
-          pass1 ! (init ! 10 refl ((shr_slice_Lawful 𝓛 (named 1) κ₁ X).typed xi _ in_is).0) $
-          pass1 ! (init ! 8 refl (tt, (tt, (record { fits = room.0 }, tt)))) $ pass0 ! $
+          (λ l₂. alloc1 ! (λ l₃. alloc1 ! (λ l₄. alloc1 ! (λ l₅. alloc1 ! (λ l₆. alloc1 ! (λ l₇. alloc1 ! (λ l₈. alloc0 ! $ params1 ! $
+          pass1 ! (init ! 14 refl (tt, tt)) $
+          pass1 ! (init ! 12 refl ((shr_slice_Lawful 𝓛 (named 1) κ₁ X).typed xi _ in_is).0) $
+          pass1 ! (init ! 10 refl (tt, (tt, (record { fits = room.0 }, tt)))) $ pass0 ! $
           -- the borrow is opened, and the struct is copied out
-          move ! (16 ∷ 17 ∷ 18 ∷ []) $ opens ! tt (state-row T) {h = h} b o (λ vs.
+          move ! (18 ∷ 19 ∷ 20 ∷ []) $ opens ! tt (state-row T) {h = h} b o (λ vs.
           spelt ! (state-row T) (Is (state-row T)) (shows 𝓛 (state-row T)) (LL.vals T.type T.laws) (LL.tells T.type
           T.laws) full_share h vs b o $
           move ! (1 ∷ []) $ peeks ! (state-row T) (Is (state-row T)) (shows 𝓛 (state-row T)) h (mach ∷ []) (λ was. move ! (1 ∷ 0 ∷ []) $
-          -- [the struct's cell; what the state owns; the open borrow; obs; auth; _7; …; _6; …; _5; …; _4; …; _3; …; _2; …; _1; …; room for _0; …;
-          -- what the slices own; their tokens]
-          assigns ! (of_opd ! (load ! (from ! (hop ! (look ! 17 refl) (stop !))) (look_raw ! 0 refl))) (from ! (stop !)) (init ! 9 refl
+          -- [the struct's cell; what the state owns; the open borrow; obs; auth; _8; …; _7; …; _6; …; _5; …; _4; …; _3; …; _2; …; _1; …;
+          -- room for _0; …; what the slices own; their tokens]
+          assigns ! (of_opd ! (load ! (from ! (hop ! (look ! 19 refl) (stop !))) (look_raw ! 0 refl))) (from ! (stop !)) (init ! 11 refl
           ((LL.lawful T.type T.laws 𝓛).typed h _ was).0) $
-          assigns ! (addr ! (from ! (fld ! refl (hop ! (look_in ! 13 (sub ! 0 refl (whole !))) (stop !))))) (from ! (stop !)) (init ! 7 refl
+          assigns ! (addr ! (from ! (fld ! refl (hop ! (look_in ! 15 (sub ! 0 refl (whole !))) (stop !))))) (from ! (stop !)) (init ! 9 refl
           (tt, tt)) $
-          assigns ! (agg ! (and_then ! (load ! (from ! (stop !)) (look ! 7 refl))
-          (and_then ! (load ! (from ! (fld ! refl (stop !))) (look_in ! 13 (sub ! 1 refl (whole !)))) (no_more !)))) (from ! (stop !))
-          (init ! 5 refl (tt, (tt, (record { fits = room.0 }, tt)))) $
-          -- what the core is passed is put together, with a copy of the input
-          move ! (21 ∷ []) $ fsplit ! $ use1 𝓛 (‵ In ⊛ ‵ In) ((shr_slice_copy 𝓛 (named 1) κ₁ X).twice xi (vi ∷ [])) $ split ! $
-          -- [the input; the input; the output; the struct's cell; what the state owns; the open borrow; obs; auth; _7; …]
-          move ! (0 ∷ 2 ∷ []) $ fjoin ! $ move ! (3 ∷ 0 ∷ []) $ fjoin ! $ move ! (22 ∷ 0 ∷ []) $ use2 𝓛 (raw ((Core form 𝓛).pre to-core)) goes-core $
-          -- [what the core asks; the input; the struct's cell; the open borrow; obs; auth; _7; …; _6; …; _5; …; _4; …; _3; …; _2; …; _1; …; room
-          -- for _0; …]
-          calls_at ! fm (Core form 𝓛) known to-core (and_then ! (load ! (from ! (stop !)) (look ! 10 refl))
-          (and_then ! (load ! (from ! (stop !)) (look ! 16 refl)) (and_then ! (load ! (from ! (stop !)) (look ! 6 refl)) (no_more !)))) (λ w.
+          assigns ! (agg ! (and_then ! (load ! (from ! (stop !)) (look ! 9 refl))
+          (and_then ! (load ! (from ! (fld ! refl (stop !))) (look_in ! 15 (sub ! 1 refl (whole !)))) (no_more !)))) (from ! (stop !))
+          (init ! 7 refl (tt, (tt, (record { fits = room.0 }, tt)))) $
+          -- what the core is passed is put together
+          move ! (1 ∷ 23 ∷ []) $ fjoin ! $ move ! (23 ∷ 0 ∷ []) $ use2 𝓛 (raw ((Core form 𝓛).pre to-core)) goes-core $
+          -- [what the core asks; the struct's cell; the open borrow; obs; auth; _8; …; _7; …; _6; …; _5; …; _4; …; _3; …; _2; …; _1; …; room for
+          -- _0; …]
+          calls_at ! fm (Core form 𝓛) known to-core (and_then ! (load ! (from ! (stop !)) (look ! 11 refl))
+          (and_then ! (load ! (from ! (stop !)) (look ! 17 refl)) (and_then ! (load ! (from ! (stop !)) (look ! 7 refl)) (no_more !)))) (λ w.
           use1 𝓛 (later (some (λ (r : S.D). (Toks ⊛ ‵ ((result_row S).own_val r (w ∷ []))) ⊛ raw
           (ensured 𝓛 core-ended (core-clauses 𝓤) (κ₁, (κ₂, tt)) (h, (xi, (xo, tt))) tt r)))) (id⊢ 𝓤 _) $ await ! tt $ pick ! (λ r.
           -- what the core ensures, at some last list of the output
@@ -243,30 +247,31 @@ module _ (T : Struct) (O : Value) (S : Result O T) (X : RattleType) (one_in : On
           use1 𝓛 (some (λ (zs : Lasts core-ended (κ₁, (κ₂, tt)) (h, (xi, (xo, tt)))). ‵ (lasts core-ended (κ₁, (κ₂, tt)) (h, (xi, (xo, tt))) zs)
           ⊛ raw (fact 𝓤 (Said r zs.1.1.0)))) (id⊢ 𝓤 _) $ pick ! (λ zs.
           split ! $ move ! (1 ∷ []) $ heard ! (Said r zs.1.1.0) (λ e. fsplit ! $ drop ! $ fsplit ! $ drop ! $ fsplit ! $ fsplit ! $
-          move ! (1 ∷ []) $ feq_l ! (λ l.
-          -- [the last list; true; the tokens and the result; the input; the struct's cell; …]
+          fsplit ! $ move ! (1 ∷ []) $ feq_l ! (λ l. fjoin ! $
+          -- [the last list and the output's borrow; true; the tokens and the result; the struct's cell; …]
           move ! (2 ∷ []) $ split ! $ move ! (1 ∷ []) $ peeks ! (result_row S) (Is (result_row S)) (shows 𝓛 (result_row S)) r (w ∷ []) (λ is.
-          land ! (from ! (stop !)) (init ! 15 refl ((LL.lawful (result-type S) (result-laws S) 𝓛).typed r _ is).0) $
-          rewrite ! 15 (λ (u : Val). ‵ (fat full_share (layout (SD.shape (result-type S))) l₄ 0 u)) (ap only
+          land ! (from ! (stop !)) (init ! 16 refl ((LL.lawful (result-type S) (result-laws S) 𝓛).typed r _ is).0) $
+          rewrite ! 16 (λ (u : Val). ‵ (fat full_share (layout (SD.shape (result-type S))) l₄ 0 u)) (ap only
           (LL.tells (result-type S) (result-laws S) r (w ∷ []) is)) refl $
-          -- [what the core returned owns; the tokens; the last list; true; the input; the struct's cell; the open borrow; obs; auth; _7; …; _6; …;
+          -- [what the core returned owns; the tokens; the last list; true; the struct's cell; the open borrow; obs; auth; _8; …; _7; …; _6; …;
           -- _5; …; _4; …; _3; …; _2; …; _1; …; room for _0; …]
-          assigns ! (of_opd ! (load ! (from ! (fld ! refl (stop !))) (look_in ! 15 (sub ! 1 refl (whole !))))) (from !
-          (hop ! (look ! 21 refl) (stop !))) (store_raw ! 5 refl ((LL.lawful T.type T.laws 𝓛).typed (S.state r) _
-          (state-is S r w is)).0) $
-          assigns ! (of_opd ! (load ! (from ! (fld ! refl (stop !))) (look_in ! 15 (sub ! 0 refl (whole !))))) (from ! (stop !)) (init ! 23 refl
+          assigns ! (of_opd ! (load ! (from ! (fld ! refl (stop !))) (look_in ! 16 (sub ! 1 refl (whole !))))) (from ! (stop !)) (init ! 8 refl
+          ((LL.lawful T.type T.laws 𝓛).typed (S.state r) _ (state-is S r w is)).0) $
+          assigns ! (of_opd ! (load ! (from ! (stop !)) (look ! 8 refl))) (from ! (hop ! (look ! 22 refl) (stop !))) (store_raw ! 4 refl
+          ((LL.lawful T.type T.laws 𝓛).typed (S.state r) _ (state-is S r w is)).0) $
+          assigns ! (of_opd ! (load ! (from ! (fld ! refl (stop !))) (look_in ! 16 (sub ! 0 refl (whole !))))) (from ! (stop !)) (init ! 24 refl
           ((value-lawful O 𝓛).typed (S.answer r) _ (answer-is S r w is)).0) $
           -- the borrow is closed at the state that the core returned
           owned ! (state-row T) (Is (state-row T)) (LL.makes T.type T.plain 𝓛) (S.state r) _ (state-is S r w is) $
-          move ! (6 ∷ 0 ∷ 7 ∷ 8 ∷ 9 ∷ []) $ closes ! tt (state-row T) (S.state r) (LL.vals T.type T.laws (S.state r)) b o $
-          -- [obs; the borrow; its token; what the core returned owns; the slices' tokens; the last list; true; the input; _7; …; _6; …; _5; …; _4;
-          -- …; _3; …; _2; …; _1; …; _0; …]
-          returns ! (look ! 22 refl) $ forget ! 8 refl $ forget ! 10 refl $ forget ! 12 refl $ forget ! 14 refl $ forget ! 16 refl $
-          forget ! 18 refl $ forget ! 20 refl $ forget ! 22 refl $
-          move ! (22 ∷ 23 ∷ []) $ free1 ! $ move ! (20 ∷ 21 ∷ []) $ free1 ! $ move ! (18 ∷ 19 ∷ []) $ free1 ! $ move ! (16 ∷ 17 ∷ []) $ free1 ! $
-          move ! (14 ∷ 15 ∷ []) $ free1 ! $ move ! (12 ∷ 13 ∷ []) $ free1 ! $ move ! (10 ∷ 11 ∷ []) $ free1 ! $ move ! (8 ∷ 9 ∷ []) $ free1 ! $
-          free0 ! $
-          keep ! (0 ∷ 1 ∷ 2 ∷ 4 ∷ 7 ∷ 5 ∷ []) $ by ! (exits r w zs.1.1.0 is e l)))))))))))))))))
+          move ! (5 ∷ 0 ∷ 6 ∷ 7 ∷ 8 ∷ []) $ closes ! tt (state-row T) (S.state r) (LL.vals T.type T.laws (S.state r)) b o $
+          -- [obs; the borrow; its token; what the core returned owns; the slices' tokens; the last list; true; _8; …; _7; …; _6; …; _5; …; _4; …;
+          -- _3; …; _2; …; _1; …; _0; …]
+          returns ! (look ! 23 refl) $ forget ! 7 refl $ forget ! 9 refl $ forget ! 11 refl $ forget ! 13 refl $ forget ! 15 refl $
+          forget ! 17 refl $ forget ! 19 refl $ forget ! 21 refl $ forget ! 23 refl $
+          move ! (23 ∷ 24 ∷ []) $ free1 ! $ move ! (21 ∷ 22 ∷ []) $ free1 ! $ move ! (19 ∷ 20 ∷ []) $ free1 ! $ move ! (17 ∷ 18 ∷ []) $ free1 ! $
+          move ! (15 ∷ 16 ∷ []) $ free1 ! $ move ! (13 ∷ 14 ∷ []) $ free1 ! $ move ! (11 ∷ 12 ∷ []) $ free1 ! $ move ! (9 ∷ 10 ∷ []) $ free1 ! $
+          move ! (7 ∷ 8 ∷ []) $ free1 ! $ free0 ! $
+          keep ! (0 ∷ 1 ∷ 2 ∷ 4 ∷ 5 ∷ []) $ by ! (exits r w zs.1.1.0 is e l))))))))))))))))))
 
   module _ {M : Type 1} {𝓤 : Ura M} (𝓛 : Logic 𝓤) where
     open 𝓛 use {H}
@@ -274,7 +279,7 @@ module _ (T : Struct) (O : Value) (S : Result O T) (X : RattleType) (one_in : On
     lent-walks : (C : Calls 𝓤 H) (Λ : Loops 𝓤 H) → FmC 𝓤 H 𝓛.laws C → Triple 𝓤 (C #core) (Core form 𝓛)
         → Walks 𝓛 lent-ended stayed (WpFn 𝓤 H C Λ function) (lent-clauses 𝓤)
     lent-walks C Λ fm known = walked 𝓛 lent-ended stayed (lent-clauses 𝓤) (WpFn 𝓤 H C Λ function) (λ κs.
-        (shr_vals, (shr_slice_vals, (shr_slice_vals, tt))))
+        (mut_vals, (shr_slice_vals, (mut_slice_vals, tt))))
         (λ κs. (
           mut_Tells (named 0) κs.0 (state-row T),
           (shr_slice_Tells (named 1) κs.1.0 X, (mut_slice_Tells (named 2) κs.1.1.0 Y, tt)),
@@ -286,7 +291,7 @@ module _ (T : Struct) (O : Value) (S : Result O T) (X : RattleType) (one_in : On
     goes : AllGo 𝓛 3 lent-signature.params lent-ended.kept stayed
     goes = (
       Goes-ref 𝓛 3 0 tt (plain (λ _. state-row T)),
-      (Goes-none_slice 𝓛 3 (1 ∷ []) tt (plain (λ _. X)) yes, (Goes-gave_slice 𝓛 3 2 tt (plain (λ _. Y)), tt)),
+      (Goes-dropped 𝓛 3 (SliceRefOf (1 ∷ []) tt (plain (λ _. X)) (λ _. one_in)) yes (λ κs x f. refl), (Goes-gave_slice 𝓛 3 2 tt (plain (λ _. Y)), tt)),
     )
 
   pub lent-call : {M : Type 1} (𝓤 : Ura M) → Theorem form 𝓤

@@ -16,6 +16,8 @@ use denote.Shadow.{makes_shadow}
 use denote.Struct.Field.{Field, rows, u8-field, u64-field}
 use denote.Struct.Recorded.{Recorded, recorded_lawful}
 use denote.Struct.Struct.{Plains, layout}
+use denote.Struct.Cover.{Cover}
+use denote.Struct.Values.{Values}
 use denote.Struct.Declared as struct
 use denote.Struct.Laws as struct_laws
 use denote.Enum.Enum.{Few, Plainss, layout as enum-layout}
@@ -46,9 +48,11 @@ at_one F τ = record {
     mir = τ ∷ [];
     written = F.row.written;
     reaches = F.row.reaches;
+    lives = F.row.lives;
     own_val = F.row.own_val;
     exit = F.row.exit;
     coded = F.row.coded;
+    shr_at = F.row.shr_at;
   };
   Value = F.Value;
   into = F.into;
@@ -119,15 +123,20 @@ pub record Passed : Type 2 where
 abbrev pub passed-u64 : Passed
 passed-u64 = record { value = of-u64; last = λ _. tt; silent = λ x f. refl }
 
--- a struct of an answer and a state: what the call by value gives back
+-- a struct of an answer and a state, and of no more data than that: what the call by value gives back
+abbrev pub result-parts : Value → Struct → List Field
+result-parts O T = value-field O ∷ struct.field T.type ∷ []
+
 pub record Result (O : Value) (T : Struct) : Type 2 where
   pub name : Sym
   pub D : Type 0
   pub answer : D → Of O
   pub state : D → T.type.D
   pub to_one : (x y : D) →
-      ◌≡◌ {A = Denots (rows (value-field O ∷ struct.field T.type ∷ []))} (O.field.into (answer x), (T.type.to (state x), tt))
+      ◌≡◌ {A = Denots (rows (result-parts O T))} (O.field.into (answer x), (T.type.to (state x), tt))
       (O.field.into (answer y), (T.type.to (state y), tt)) → x ≡ y
+  pub cover : Cover D (Values (result-parts O T)) (λ r. (answer r, (state r, tt)))
+  pub propositions : (v : Values (result-parts O T)) → IsProp (cover.Ghost v)
 
 -- the state's row, and the result as a struct of two fields
 abbrev pub state-row : Struct → RattleType
@@ -138,10 +147,15 @@ module _ {O : Value} {T : Struct} (S : Result O T) where
   result-type = record {
     name = S.name;
     args = [];
-    parts = value-field O ∷ struct.field T.type ∷ [];
+    types = [];
+    parts = result-parts O T;
     D = S.D;
     to = λ r. (O.field.into (S.answer r), (T.type.to (S.state r), tt));
     to_one = S.to_one;
+    as_values = λ r. (S.answer r, (S.state r, tt));
+    to_is = λ r. refl;
+    cover = S.cover;
+    propositions = S.propositions;
   }
 
   abbrev pub result-laws : struct_laws.Laws result-type
