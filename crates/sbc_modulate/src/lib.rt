@@ -4,6 +4,7 @@
 // Each loop is written once, over the number of subbands; the caller hands it down as a literal, so that the compiler makes a loop of known
 // length for each.
 #![tactic(auto)]
+
 mod matrices;
 
 ghost use Rattle.std.specs.Prelude.{◌≡◌, ◌+◌, ◌*◌, ◌/◌, ◌^◌, ◌≤◌, ◌<◌, get_or, pos};

@@ -1,0 +1,13 @@
+-- `sbc_modulate::push` meets its contract. The loop's invariant: the first r places from `at` on hold V, and all others what they held.
+-- Assumes nothing.
+use Prim.Native.Nat.{◌*◌, ◌-◌, ◌≤◌}
+use mathlib.Core.Path.{◌≡◌}
+use Rattle.laws.specs.Sums.{overwrite}
+use Rattle.sbc_modulate.specs.Fold.{row_value}
+use Rattle.sbc_modulate.proofs.push.Given as goal
+
+abbrev pub invariant-loop-r : goal.invariant-loop-r
+invariant-loop-r l = (l.r ≤ 2 * l.subbands) × (l.values ≡ overwrite l.at l.r (row_value l.subbands l.rows) l.initial.values)
+
+abbrev pub decreases-loop-r : goal.decreases-loop-r
+decreases-loop-r l = 2 * l.subbands - l.r

@@ -1,0 +1,32 @@
+-- `sbc_modulate::row_all` meets its contract. The loop's invariant: the places before m hold the rows, and the others 0.
+-- Assumes nothing.
+use native.Mathlib.Omega.{arith}
+use mir.Syntax.{w64}
+use Rattle.laws.proofs.Arrays.{fill_none, filled, stored}
+use Rattle.sbc_filterbank.proofs.Bands.{bands-le}
+use Rattle.sbc_modulate.proofs.row_all.Goals as goal
+
+pub loop-m-init : goal.loop-m-init
+loop-m-init c = (omega arith, fill_none 8 _)
+
+pub row-requires : goal.row-requires
+row-requires c = (c.requires.0, c.loop-m-test.true, c.requires.1, c.requires.2, c.requires.3)
+
+pub offset_bounds-rows-m : goal.offset_bounds-rows-m
+offset_bounds-rows-m c = omega (arith, bands-le c.requires.0)
+
+pub bounds-rows-m : goal.bounds-rows-m
+bounds-rows-m c = omega (arith, bands-le c.requires.0)
+
+pub overflow_step-m : goal.overflow_step-m
+overflow_step-m c = omega (arith, bands-le c.requires.0)
+
+pub loop-m-preserved : goal.loop-m-preserved
+loop-m-preserved c = (
+  omega arith,
+  stored w64 8 _ _ _ _ (record { sfits = c.row.type_inv }) (omega (arith, bands-le c.requires.0))
+      c.loop-m.invariant.1 c.row.ensures,
+)
+
+pub returns : goal.returns
+returns c = filled 8 _ _ _ _ (omega arith) (omega arith) c.loop-m.invariant.1
