@@ -1,5 +1,6 @@
 // The parameters of an SBC stream: which sets are accepted, the sizes of a frame, and its header.
 #![tactic(auto)]
+
 ghost use Rattle.std.specs.Prelude.{◌≡◌, ◌+◌, ◌*◌, ◌<◌, ◌≤◌};
 ghost use Rattle.laws.specs.Lists.{all_of};
 ghost use Rattle.sbc_parameters.specs.Parameters.{high_quality, msbc, channels, maximum_bitpool, is_msbc, msbc_tests, field_tests};
