@@ -1,13 +1,15 @@
 // Decodes an SBC or mSBC stream from standard input to samples of 16 bits, little endian, on standard output.
 //
 // A refusal ends the program, after the samples that were decoded before it, with its number on standard error; a last frame that is cut
-// is number 1.
+// is number 1. A write that fails ends it with that error, and a read that fails counts as the end of the input.
 #![tactic(auto)]
+
 ghost use Rattle.std.specs.Prelude.{◌≡◌, ◌*◌, length};
 
 use codec::{Coded, Error, Progress};
-use libc::STDOUT_FILENO;
 use sbc_decoder::SbcDecoder;
+use std::io;
+use std::io::Read;
 
 // The decoder, the bytes at the front of the buffer that it has not taken yet, and how far the program is.
 #[derive(Clone, Copy)]
@@ -18,22 +20,24 @@ struct Stream {
     going: bool,
 }
 
-// Writes the samples, by way of the raw buffer, and answers whether that went well.
-fn write_samples(samples: &[i16], raw: &mut [u8]) -> bool
+// Writes the samples, by way of the raw buffer.
+fn write_samples(rt: &impl Print, samples: &[i16], raw: &mut [u8]) -> io::Result<()>
     requires { length raw.old ≡ 2 * length samples.now }
 {
     pcm::write(samples, raw);
-    io::write_all(STDOUT_FILENO, raw)
+    rt.write_all(raw)
 }
 
-fn write_first(samples: &[i16], raw: &mut [u8], count: usize) -> bool {
+// Writes the first samples, and answers whether the buffers hold so many.
+fn write_first(rt: &impl Print, samples: &[i16], raw: &mut [u8], count: usize) -> io::Result<bool> {
     if count > samples.len() {
-        return false;
+        return Ok(false);
     }
     if count > raw.len() / 2 {
-        return false;
+        return Ok(false);
     }
-    write_samples(&samples[..count], &mut raw[..2 * count])
+    write_samples(rt, &samples[..count], &mut raw[..2 * count])?;
+    Ok(true)
 }
 
 impl Stream {
@@ -51,9 +55,9 @@ impl Stream {
         self
     }
 
-    fn refused(self, error: Error) -> Stream {
-        stream::report(error.number());
-        self.stopped()
+    fn refused(self, rt: &impl Eprint, error: Error) -> io::Result<Stream> {
+        stream::report(rt, error.number())?;
+        Ok(self.stopped())
     }
 
     // At the end of the input, what is held may still be a cut frame, which the decoder is asked once more.
@@ -66,7 +70,7 @@ impl Stream {
     }
 
     // Reads on, since no whole frame is held.
-    fn read_on(mut self, bytes: &mut [u8]) -> Stream {
+    fn read_on<R: Read>(mut self, input: &mut R, bytes: &mut [u8]) -> Stream {
         let held = self.held;
         if self.ended {
             return self.stopped();
@@ -74,7 +78,7 @@ impl Stream {
         if held > bytes.len() {
             return self.stopped();
         }
-        let got = stream::read_on(bytes, held);
+        let got = stream::read_on(input, bytes, held);
         if got == 0 {
             return self.finished();
         }
@@ -85,24 +89,32 @@ impl Stream {
     // Some frames were decoded.
     fn advanced(
         mut self,
+        rt: &impl Print,
         progress: Progress,
         bytes: &mut [u8],
         samples: &[i16],
         raw: &mut [u8],
-    ) -> Stream {
-        if !write_first(samples, raw, progress.produced) {
-            return self.stopped();
+    ) -> io::Result<Stream> {
+        if !write_first(rt, samples, raw, progress.produced)? {
+            return Ok(self.stopped());
         }
         let held = stream::keep(bytes, progress.consumed, self.held);
         self.held = held;
-        self
+        Ok(self)
     }
 
     // The next frames, or more of the input.
-    fn next(mut self, bytes: &mut [u8], samples: &mut [i16], raw: &mut [u8]) -> Stream {
+    fn next<R: Read>(
+        mut self,
+        rt: &(impl Print + Eprint),
+        input: &mut R,
+        bytes: &mut [u8],
+        samples: &mut [i16],
+        raw: &mut [u8],
+    ) -> io::Result<Stream> {
         let held = self.held;
         if held > bytes.len() {
-            return self.stopped();
+            return Ok(self.stopped());
         }
         let decoder = self.decoder;
         let result = decoder.decoded(&bytes[..held], samples);
@@ -112,28 +124,36 @@ impl Stream {
         match answer {
             Coded::Done(progress) => {
                 if progress.consumed == 0 {
-                    return self.read_on(bytes);
+                    return Ok(self.read_on(input, bytes));
                 }
-                self.advanced(progress, bytes, samples, raw)
+                self.advanced(rt, progress, bytes, samples, raw)
             }
-            Coded::Refused(error) => self.refused(error),
+            Coded::Refused(error) => self.refused(rt, error),
         }
     }
 }
 
-// A proved loop has to end, and nothing says that the input does. So the loop counts its turns down, from a number that no run uses up.
-fn run(bytes: &mut [u8], samples: &mut [i16], raw: &mut [u8]) {
-    let mut turns = u64::MAX;
+// A proved loop has to end, and nothing says that the input does. So the loop counts its turns, up to a number that no run uses up.
+fn run(
+    rt: &(impl Input + Print + Eprint),
+    bytes: &mut [u8],
+    samples: &mut [i16],
+    raw: &mut [u8],
+) -> io::Result<()> {
+    let mut input = rt.reader();
     let mut stream = Stream::new();
-    while turns > 0 && stream.going {
-        stream = stream.next(bytes, samples, raw);
-        turns -= 1;
+    for _ in 0..u64::MAX {
+        if !stream.going {
+            break;
+        }
+        stream = stream.next(rt, &mut input, bytes, samples, raw)?;
     }
+    Ok(())
 }
 
-fn main() {
+fn main(rt: HostRuntime) -> io::Result<()> {
     let mut bytes = [0u8; 16384];
     let mut samples = [0i16; 65536];
     let mut raw = [0u8; 131072];
-    run(&mut bytes, &mut samples, &mut raw);
+    run(&rt, &mut bytes, &mut samples, &mut raw)
 }

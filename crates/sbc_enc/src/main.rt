@@ -2,16 +2,19 @@
 //
 // The arguments are the sample rate in Hz, the mode (mono, dual, stereo, joint), the allocation (loudness, snr), the blocks, the subbands
 // and the bitpool; with none, they are those of HIGH_QUALITY. Samples at the end that do not fill a frame are left out. A refusal ends the
-// program, with its number on standard error; settings that are refused, or not understood, are number 3.
+// program, with its number on standard error; settings that are refused, or not understood, are number 3. A write that fails ends it with that
+// error, and a read that fails counts as the end of the input.
 #![tactic(auto)]
+
 mod settings;
 
 ghost use Rattle.std.specs.Prelude.{◌≡◌, ◌*◌, ◌≤◌, length};
 
 use codec::{Coded, Error, Progress};
-use libc::STDOUT_FILENO;
 use sbc_encoder::{EncodeResult, SbcEncoder};
 use sbc_parameters::{Parsed, SbcParameters, Validated};
+use std::io;
+use std::io::Read;
 
 // The encoder, the bytes at the front of the raw buffer that it has not taken yet, and whether the program goes on.
 #[derive(Clone, Copy)]
@@ -41,12 +44,13 @@ fn encode_first(
     encode(encoder, &raw[..2 * count], &mut samples[..count], bytes)
 }
 
-// Writes the first bytes, and answers whether that went well.
-fn write_first(bytes: &[u8], count: usize) -> bool {
+// Writes the first bytes, and answers whether there are so many.
+fn write_first(rt: &impl Print, bytes: &[u8], count: usize) -> io::Result<bool> {
     if count > bytes.len() {
-        return false;
+        return Ok(false);
     }
-    io::write_all(STDOUT_FILENO, &bytes[..count])
+    rt.write_all(&bytes[..count])?;
+    Ok(true)
 }
 
 impl Stream {
@@ -55,18 +59,18 @@ impl Stream {
         self
     }
 
-    fn refused(self, error: Error) -> Stream {
-        stream::report(error.number());
-        self.stopped()
+    fn refused(self, rt: &impl Eprint, error: Error) -> io::Result<Stream> {
+        stream::report(rt, error.number())?;
+        Ok(self.stopped())
     }
 
     // Reads on, since no whole frame is held.
-    fn read_on(mut self, raw: &mut [u8]) -> Stream {
+    fn read_on<R: Read>(mut self, input: &mut R, raw: &mut [u8]) -> Stream {
         let held = self.held;
         if held > raw.len() {
             return self.stopped();
         }
-        let got = stream::read_on(raw, held);
+        let got = stream::read_on(input, raw, held);
         if got == 0 {
             return self.stopped();
         }
@@ -75,27 +79,40 @@ impl Stream {
     }
 
     // Some frames were encoded.
-    fn advanced(mut self, progress: Progress, raw: &mut [u8], bytes: &[u8]) -> Stream {
+    fn advanced(
+        mut self,
+        rt: &impl Print,
+        progress: Progress,
+        raw: &mut [u8],
+        bytes: &[u8],
+    ) -> io::Result<Stream> {
         let consumed = progress.consumed;
         if consumed > raw.len() / 2 {
-            return self.stopped();
+            return Ok(self.stopped());
         }
-        if !write_first(bytes, progress.produced) {
-            return self.stopped();
+        if !write_first(rt, bytes, progress.produced)? {
+            return Ok(self.stopped());
         }
         let held = stream::keep(raw, 2 * consumed, self.held);
         self.held = held;
-        self
+        Ok(self)
     }
 
     // The next frames, or more of the input.
-    fn next(mut self, raw: &mut [u8], samples: &mut [i16], bytes: &mut [u8]) -> Stream {
+    fn next<R: Read>(
+        mut self,
+        rt: &(impl Print + Eprint),
+        input: &mut R,
+        raw: &mut [u8],
+        samples: &mut [i16],
+        bytes: &mut [u8],
+    ) -> io::Result<Stream> {
         let count = self.held / 2;
         if count > raw.len() / 2 {
-            return self.stopped();
+            return Ok(self.stopped());
         }
         if count > samples.len() {
-            return self.stopped();
+            return Ok(self.stopped());
         }
         let encoder = self.encoder;
         let result = encode_first(encoder, raw, samples, bytes, count);
@@ -105,58 +122,61 @@ impl Stream {
         match answer {
             Coded::Done(progress) => {
                 if progress.consumed == 0 {
-                    return self.read_on(raw);
+                    return Ok(self.read_on(input, raw));
                 }
-                self.advanced(progress, raw, bytes)
+                self.advanced(rt, progress, raw, bytes)
             }
-            Coded::Refused(error) => self.refused(error),
+            Coded::Refused(error) => self.refused(rt, error),
         }
     }
 }
 
-// A proved loop has to end, and nothing says that the input does. So the loop counts its turns down, from a number that no run uses up.
-fn run(encoder: SbcEncoder, raw: &mut [u8], samples: &mut [i16], bytes: &mut [u8]) {
-    let mut turns = u64::MAX;
+// A proved loop has to end, and nothing says that the input does. So the loop counts its turns, up to a number that no run uses up.
+fn run(
+    rt: &(impl Input + Print + Eprint),
+    encoder: SbcEncoder,
+    raw: &mut [u8],
+    samples: &mut [i16],
+    bytes: &mut [u8],
+) -> io::Result<()> {
+    let mut input = rt.reader();
     let mut stream = Stream {
         encoder,
         held: 0,
         going: true,
     };
-    while turns > 0 && stream.going {
-        stream = stream.next(raw, samples, bytes);
-        turns -= 1;
+    for _ in 0..u64::MAX {
+        if !stream.going {
+            break;
+        }
+        stream = stream.next(rt, &mut input, raw, samples, bytes)?;
     }
+    Ok(())
 }
 
 // The buffer of bytes holds what a full buffer of samples becomes: at most 2.4 bytes a sample.
-fn encode_all(encoder: SbcEncoder) {
+fn encode_all(rt: &(impl Input + Print + Eprint), encoder: SbcEncoder) -> io::Result<()> {
     let mut raw = [0u8; 32768];
     let mut samples = [0i16; 16384];
     let mut bytes = [0u8; 65536];
-    run(encoder, &mut raw, &mut samples, &mut bytes);
+    run(rt, encoder, &mut raw, &mut samples, &mut bytes)
 }
 
-fn start(parameters: SbcParameters) {
+fn start(rt: &(impl Input + Print + Eprint), parameters: SbcParameters) -> io::Result<()> {
     let created = SbcEncoder::new(parameters);
     let outcome = created.outcome;
     match outcome {
         Validated::Accepted => {
             let encoder = created.encoder;
-            encode_all(encoder);
+            encode_all(rt, encoder)
         }
-        Validated::Refused(error) => {
-            stream::report(error.number());
-        }
+        Validated::Refused(error) => stream::report(rt, error.number()),
     }
 }
 
-fn main() {
-    match settings::of_arguments() {
-        Parsed::Parameters(parameters) => {
-            start(parameters);
-        }
-        Parsed::Refused(error) => {
-            stream::report(error.number());
-        }
+fn main(rt: HostRuntime) -> io::Result<()> {
+    match settings::of_arguments(&rt) {
+        Parsed::Parameters(parameters) => start(&rt, parameters),
+        Parsed::Refused(error) => stream::report(&rt, error.number()),
     }
 }

@@ -1,10 +1,10 @@
 // The encoder's parameters, from the program's arguments.
-ghost use Rattle.std.specs.Prelude.{◌≤◌};
+ghost use Rattle.std.specs.Prelude.{◌≤◌, length};
 
-use check::same;
 use codec::Error;
 use sbc_modes::{SbcAllocation, SbcChannelMode};
 use sbc_parameters::{Parsed, SbcParameters};
+use std::env::{Env, FillError};
 
 // A digit's number, or 10 for another byte.
 fn digit(b: u8) -> u32
@@ -36,63 +36,72 @@ fn decimal(word: &[u8]) -> u32 {
 
 // The number of a mode's word, or 4.
 fn mode_number(word: &[u8]) -> u8 {
-    if same(word, b"mono") {
-        return 0;
+    match word {
+        b"mono" => 0,
+        b"dual" => 1,
+        b"stereo" => 2,
+        b"joint" => 3,
+        _ => 4,
     }
-    if same(word, b"dual") {
-        return 1;
-    }
-    if same(word, b"stereo") {
-        return 2;
-    }
-    if same(word, b"joint") {
-        return 3;
-    }
-    4
 }
 
 // The number of an allocation's word, or 2.
 fn allocation_number(word: &[u8]) -> u8 {
-    if same(word, b"loudness") {
-        return 0;
+    match word {
+        b"loudness" => 0,
+        b"snr" => 1,
+        _ => 2,
     }
-    if same(word, b"snr") {
-        return 1;
-    }
-    2
 }
 
-// The arguments; one that is missing or long is an empty word.
-fn number_at(i: usize) -> u32 {
+// Puts argument i at the front of the space, and answers its length; one that is missing or long is an empty word.
+fn argument(rt: &impl Env, i: usize, space: &mut [u8]) -> usize
+    ensures { result ≤ length space.new }
+{
+    match rt.arg(i, space) {
+        Ok(count) => count,
+        Err(_) => 0,
+    }
+}
+
+fn is_given(rt: &impl Env, i: usize) -> bool {
     let mut space = [0u8; 16];
-    let n = os::arg(i, &mut space);
+    match rt.arg(i, &mut space) {
+        Err(FillError::NotPresent) => false,
+        Ok(_) | Err(FillError::TooLong) => true,
+    }
+}
+
+fn number_at(rt: &impl Env, i: usize) -> u32 {
+    let mut space = [0u8; 16];
+    let n = argument(rt, i, &mut space);
     decimal(&space[..n])
 }
 
-fn byte_at(i: usize) -> u8 {
-    let n = number_at(i);
+fn byte_at(rt: &impl Env, i: usize) -> u8 {
+    let n = number_at(rt, i);
     if n < 256 {
         return n as u8;
     }
     0
 }
 
-fn mode_at(i: usize) -> u8 {
+fn mode_at(rt: &impl Env, i: usize) -> u8 {
     let mut space = [0u8; 16];
-    let n = os::arg(i, &mut space);
+    let n = argument(rt, i, &mut space);
     mode_number(&space[..n])
 }
 
-fn allocation_at(i: usize) -> u8 {
+fn allocation_at(rt: &impl Env, i: usize) -> u8 {
     let mut space = [0u8; 16];
-    let n = os::arg(i, &mut space);
+    let n = argument(rt, i, &mut space);
     allocation_number(&space[..n])
 }
 
 // What six words say; whether it is accepted shows later.
-fn of_words() -> Parsed {
-    let mode = mode_at(2);
-    let allocation = allocation_at(3);
+fn of_words(rt: &impl Env) -> Parsed {
+    let mode = mode_at(rt, 2);
+    let allocation = allocation_at(rt, 3);
     if mode > 3 {
         return Parsed::Refused(Error::InvalidParameter);
     }
@@ -100,23 +109,22 @@ fn of_words() -> Parsed {
         return Parsed::Refused(Error::InvalidParameter);
     }
     Parsed::Parameters(SbcParameters {
-        sample_rate: number_at(1),
+        sample_rate: number_at(rt, 1),
         channel_mode: SbcChannelMode::from_number(mode),
         allocation: SbcAllocation::from_number(allocation),
-        blocks: byte_at(4),
-        subbands: byte_at(5),
-        bitpool: byte_at(6),
+        blocks: byte_at(rt, 4),
+        subbands: byte_at(rt, 5),
+        bitpool: byte_at(rt, 6),
     })
 }
 
-// The arguments' parameters: HIGH_QUALITY where there are none. The program's name counts as one.
-pub fn of_arguments() -> Parsed {
-    let count = os::arg_count();
-    if count < 2 {
+// The arguments' parameters: HIGH_QUALITY where there are none, and else those of six words. Argument 0 is the program's name.
+pub fn of_arguments(rt: &impl Env) -> Parsed {
+    if !is_given(rt, 1) {
         return Parsed::Parameters(SbcParameters::HIGH_QUALITY);
     }
-    if count == 7 {
-        return of_words();
+    if is_given(rt, 6) && !is_given(rt, 7) {
+        return of_words(rt);
     }
     Parsed::Refused(Error::InvalidParameter)
 }
