@@ -1,5 +1,6 @@
 // How a group shares its bitpool by need: its needs stand in a slice, 32 higher, in the order in which they are served.
 #![tactic(auto)]
+
 ghost use Rattle.std.specs.Prelude.{◌≡◌, ◌++◌, map, ◌-◌, ◌≤◌, length, take, drop, replicate};
 ghost use Rattle.sbc_share.specs.Share.{sum, level_part, level_bits, descend, level_of, base_bits, round_gain, round_bits, last_bit, share};
 ghost use Rattle.sbc_share.specs.Raised.{lowered, greatest_raised, least_raised, excesses, Servable};
