@@ -206,12 +206,12 @@ module _ (T : Struct) (N : Passed) (O : Value) (S : Result O T) (#core : Callee)
           rewrite ! 9 (λ (u : Val). ‵ (fat full_share (layout (SD.shape (result-type S))) l₃ 0 u)) (ap only
           (LL.tells (result-type S) (result-laws S) r (w ∷ []) is)) refl $
           -- [what the core returned owns; the struct's cell; the open borrow; obs; auth; _5; …; _4; …; _3; …; _2; …; _1; …; room for _0; …]
-          assigns ! (of_opd ! (load ! (from ! (fld ! refl (stop !))) (look_in ! 9 (sub ! 1 refl (whole !))))) (from ! (stop !)) (init ! 5 refl
-          ((LL.lawful T.type T.laws 𝓛).typed (S.state r) _ (state-is S r w is)).0) $
+          assigns ! (of_opd ! (load ! (from ! (fld ! refl (stop !))) (look_in ! 9 (sub ! 1 refl (whole !))))) (from ! (stop !))
+          (init ! 5 refl ((LL.lawful T.type T.laws 𝓛).typed (S.state r) _ (state-is S r w is)).0) $
           assigns ! (of_opd ! (load ! (from ! (stop !)) (look ! 5 refl))) (from ! (hop ! (look ! 13 refl) (stop !))) (store_raw ! 1 refl
           ((LL.lawful T.type T.laws 𝓛).typed (S.state r) _ (state-is S r w is)).0) $
-          assigns ! (of_opd ! (load ! (from ! (fld ! refl (stop !))) (look_in ! 9 (sub ! 0 refl (whole !))))) (from ! (stop !)) (init ! 15 refl
-          ((value-lawful O 𝓛).typed (S.answer r) _ (answer-is S r w is)).0) $
+          assigns ! (of_opd ! (load ! (from ! (fld ! refl (stop !))) (look_in ! 9 (sub ! 0 refl (whole !))))) (from ! (stop !))
+          (init ! 15 refl ((value-lawful O 𝓛).typed (S.answer r) _ (answer-is S r w is)).0) $
           -- the borrow is closed at the state that the core returned
           owned ! (state-row T) (Is (state-row T)) (LL.makes T.type T.plain 𝓛) (S.state r) _ (state-is S r w is) $
           move ! (2 ∷ 0 ∷ 3 ∷ 4 ∷ 5 ∷ []) $ closes ! tt (state-row T) (S.state r) (LL.vals T.type T.laws (S.state r)) b o $

@@ -236,8 +236,8 @@ module _ (T : Struct) (O : Value) (S : Result O T) (X : RattleType) (one_in : On
           (init ! 7 refl (tt, (tt, (record { fits = room.0 }, tt)))) $
           -- what the core is passed is put together
           move ! (1 ∷ 23 ∷ []) $ fjoin ! $ move ! (23 ∷ 0 ∷ []) $ use2 𝓛 (raw ((Core form 𝓛).pre to-core)) goes-core $
-          -- [what the core asks; the struct's cell; the open borrow; obs; auth; _8; …; _7; …; _6; …; _5; …; _4; …; _3; …; _2; …; _1; …; room for
-          -- _0; …]
+          -- [what the core asks; the struct's cell; the open borrow; obs; auth; _8; …; _7; …; _6; …; _5; …; _4; …; _3; …; _2; …; _1; …;
+          -- room for _0; …]
           calls_at ! fm (Core form 𝓛) known to-core (and_then ! (load ! (from ! (stop !)) (look ! 11 refl))
           (and_then ! (load ! (from ! (stop !)) (look ! 17 refl)) (and_then ! (load ! (from ! (stop !)) (look ! 7 refl)) (no_more !)))) (λ w.
           use1 𝓛 (later (some (λ (r : S.D). (Toks ⊛ ‵ ((result_row S).own_val r (w ∷ []))) ⊛ raw
@@ -253,24 +253,24 @@ module _ (T : Struct) (O : Value) (S : Result O T) (X : RattleType) (one_in : On
           land ! (from ! (stop !)) (init ! 16 refl ((LL.lawful (result-type S) (result-laws S) 𝓛).typed r _ is).0) $
           rewrite ! 16 (λ (u : Val). ‵ (fat full_share (layout (SD.shape (result-type S))) l₄ 0 u)) (ap only
           (LL.tells (result-type S) (result-laws S) r (w ∷ []) is)) refl $
-          -- [what the core returned owns; the tokens; the last list; true; the struct's cell; the open borrow; obs; auth; _8; …; _7; …; _6; …;
-          -- _5; …; _4; …; _3; …; _2; …; _1; …; room for _0; …]
-          assigns ! (of_opd ! (load ! (from ! (fld ! refl (stop !))) (look_in ! 16 (sub ! 1 refl (whole !))))) (from ! (stop !)) (init ! 8 refl
-          ((LL.lawful T.type T.laws 𝓛).typed (S.state r) _ (state-is S r w is)).0) $
+          -- [what the core returned owns; the tokens; the last list; true; the struct's cell; the open borrow; obs; auth; _8; …; _7; …;
+          -- _6; …; _5; …; _4; …; _3; …; _2; …; _1; …; room for _0; …]
+          assigns ! (of_opd ! (load ! (from ! (fld ! refl (stop !))) (look_in ! 16 (sub ! 1 refl (whole !))))) (from ! (stop !))
+          (init ! 8 refl ((LL.lawful T.type T.laws 𝓛).typed (S.state r) _ (state-is S r w is)).0) $
           assigns ! (of_opd ! (load ! (from ! (stop !)) (look ! 8 refl))) (from ! (hop ! (look ! 22 refl) (stop !))) (store_raw ! 4 refl
           ((LL.lawful T.type T.laws 𝓛).typed (S.state r) _ (state-is S r w is)).0) $
-          assigns ! (of_opd ! (load ! (from ! (fld ! refl (stop !))) (look_in ! 16 (sub ! 0 refl (whole !))))) (from ! (stop !)) (init ! 24 refl
-          ((value-lawful O 𝓛).typed (S.answer r) _ (answer-is S r w is)).0) $
+          assigns ! (of_opd ! (load ! (from ! (fld ! refl (stop !))) (look_in ! 16 (sub ! 0 refl (whole !))))) (from ! (stop !))
+          (init ! 24 refl ((value-lawful O 𝓛).typed (S.answer r) _ (answer-is S r w is)).0) $
           -- the borrow is closed at the state that the core returned
           owned ! (state-row T) (Is (state-row T)) (LL.makes T.type T.plain 𝓛) (S.state r) _ (state-is S r w is) $
           move ! (5 ∷ 0 ∷ 6 ∷ 7 ∷ 8 ∷ []) $ closes ! tt (state-row T) (S.state r) (LL.vals T.type T.laws (S.state r)) b o $
-          -- [obs; the borrow; its token; what the core returned owns; the slices' tokens; the last list; true; _8; …; _7; …; _6; …; _5; …; _4; …;
-          -- _3; …; _2; …; _1; …; _0; …]
+          -- [obs; the borrow; its token; what the core returned owns; the slices' tokens; the last list; true; _8; …; _7; …; _6; …; _5; …;
+          -- _4; …; _3; …; _2; …; _1; …; _0; …]
           returns ! (look ! 23 refl) $ forget ! 7 refl $ forget ! 9 refl $ forget ! 11 refl $ forget ! 13 refl $ forget ! 15 refl $
           forget ! 17 refl $ forget ! 19 refl $ forget ! 21 refl $ forget ! 23 refl $
-          move ! (23 ∷ 24 ∷ []) $ free1 ! $ move ! (21 ∷ 22 ∷ []) $ free1 ! $ move ! (19 ∷ 20 ∷ []) $ free1 ! $ move ! (17 ∷ 18 ∷ []) $ free1 ! $
-          move ! (15 ∷ 16 ∷ []) $ free1 ! $ move ! (13 ∷ 14 ∷ []) $ free1 ! $ move ! (11 ∷ 12 ∷ []) $ free1 ! $ move ! (9 ∷ 10 ∷ []) $ free1 ! $
-          move ! (7 ∷ 8 ∷ []) $ free1 ! $ free0 ! $
+          move ! (23 ∷ 24 ∷ []) $ free1 ! $ move ! (21 ∷ 22 ∷ []) $ free1 ! $ move ! (19 ∷ 20 ∷ []) $ free1 ! $
+          move ! (17 ∷ 18 ∷ []) $ free1 ! $ move ! (15 ∷ 16 ∷ []) $ free1 ! $ move ! (13 ∷ 14 ∷ []) $ free1 ! $
+          move ! (11 ∷ 12 ∷ []) $ free1 ! $ move ! (9 ∷ 10 ∷ []) $ free1 ! $ move ! (7 ∷ 8 ∷ []) $ free1 ! $ free0 ! $
           keep ! (0 ∷ 1 ∷ 2 ∷ 4 ∷ 5 ∷ []) $ by ! (exits r w zs.1.1.0 is e l))))))))))))))))))
 
   module _ {M : Type 1} {𝓤 : Ura M} (𝓛 : Logic 𝓤) where
@@ -291,7 +291,10 @@ module _ (T : Struct) (O : Value) (S : Result O T) (X : RattleType) (one_in : On
     goes : AllGo 𝓛 3 lent-signature.params lent-ended.kept stayed
     goes = (
       Goes-ref 𝓛 3 0 tt (plain (λ _. state-row T)),
-      (Goes-dropped 𝓛 3 (SliceRefOf (1 ∷ []) tt (plain (λ _. X)) (λ _. one_in)) yes (λ κs x f. refl), (Goes-gave_slice 𝓛 3 2 tt (plain (λ _. Y)), tt)),
+      (
+        Goes-dropped 𝓛 3 (SliceRefOf (1 ∷ []) tt (plain (λ _. X)) (λ _. one_in)) yes (λ κs x f. refl),
+        (Goes-gave_slice 𝓛 3 2 tt (plain (λ _. Y)), tt),
+      ),
     )
 
   pub lent-call : {M : Type 1} (𝓤 : Ura M) → Theorem form 𝓤
