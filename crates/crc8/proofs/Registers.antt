@@ -10,7 +10,7 @@ use lib.Dec.{leb, eqb}
 use lib.ListN.{length, get_or, take, drop, drop_of_length-le}
 use lib.Seq.{drop-drop, take-add, take-append-le, take-nil}
 use borrow.Author.Tests.{leb-true, leb-false, eqb-true, eqb-false, eq-eqb, ne_eqb}
-use Rattle.laws.specs.Choice.{if◌then◌else◌}
+use Rattle.std.specs.Prelude.{if◌then◌else◌}
 use Rattle.laws.specs.Bits.{odd, bits_of, bits_of_bytes}
 use Rattle.laws.proofs.Bits.{length-bits_of, bits-drop, take-bytes, drop-bytes}
 use Rattle.crc8.specs.Checksum.{crc_step, crc_bits, covered, checksum}

@@ -1,8 +1,7 @@
 -- CRC-8 with the polynomial hexadecimal 1D, high bit first, and the checksum of a frame. From document 01, "Checksum".
-use Rattle.std.specs.Prelude.{ℕ, ◌*◌, ◌%◌, Bool, List, [], ◌∷◌, ◌++◌, leb, take, drop}
+use Rattle.std.specs.Prelude.{ℕ, ◌*◌, ◌%◌, Bool, List, [], ◌∷◌, ◌++◌, leb, take, drop, if◌then◌else◌}
 use Rattle.std.specs.Bool.{beq}
 use Rattle.std.specs.Int.Bits.{bit_xor}
-use Rattle.laws.specs.Choice.{if◌then◌else◌}
 use Rattle.laws.specs.Bits.{bits_of_bytes}
 
 -- one bit: the register moves up by one, and the polynomial is added where the bit that leaves differs from the bit that comes

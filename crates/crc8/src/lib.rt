@@ -1,5 +1,6 @@
 // CRC-8 with the polynomial hexadecimal 1D, high bit first, bit by bit.
 #![tactic(auto)]
+
 ghost use Rattle.std.specs.Prelude.{◌≡◌, take};
 ghost use Rattle.laws.specs.Bits.{odd, bits_of, bits_of_bytes};
 ghost use Rattle.crc8.specs.Checksum.{crc_step, crc_bits, checksum};
