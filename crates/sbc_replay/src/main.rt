@@ -10,14 +10,15 @@
 //   F, R, r: finish, reset of the decoder, reset of the encoder
 //   Q  the decoder's set: 1 and it, or 0 and zeros
 //   A  a set, 16 scale factors: allocate. 16 bytes
-// The program ends at the end of its input, at any other byte, at a record that is cut, and at a buffer of more than 65,536 bytes or samples.
+// The program ends at the end of its input, at any other byte, at a record that is cut, and at a buffer of more than 65,536 bytes or samples. A
+// write that fails ends it with that error, and a read that fails counts as the end of the input.
 #![tactic(auto)]
+
 mod numbers;
 
 ghost use Rattle.std.specs.Prelude.{◌≡◌, true, ◌*◌, ◌≤◌, length};
 
 use codec::Coded;
-use libc::{STDIN_FILENO, STDOUT_FILENO};
 use numbers::{long_bytes, long_number, number, number_bytes};
 use sbc_allocation::allocate;
 use sbc_decoder::SbcDecoder;
@@ -25,6 +26,8 @@ use sbc_encoder::SbcEncoder;
 use sbc_modes::{SbcAllocation, SbcChannelMode};
 use sbc_parameters::{Parsed, SbcParameters, Validated};
 use sbc_seek::{LastParameters, SeekOutcome};
+use std::io;
+use std::io::{Read, Write};
 
 const NO_SET: [u8; 9] = [0; 9];
 
@@ -44,70 +47,81 @@ struct Sizes {
     came: bool,
 }
 
-// Fills the buffer from standard input, and answers whether there was enough.
-fn fill(buffer: &mut [u8]) -> bool {
-    io::read_full(STDIN_FILENO, buffer) == buffer.len()
+// Fills the buffer from the input, and answers whether there was enough.
+fn fill<R: Read>(input: &mut R, buffer: &mut [u8]) -> bool {
+    input.read_exact(buffer).is_ok()
 }
 
-fn fill_both(first: &mut [u8], second: &mut [u8]) -> bool {
-    if !fill(first) {
+fn fill_both<R: Read>(input: &mut R, first: &mut [u8], second: &mut [u8]) -> bool {
+    if !fill(input, first) {
         return false;
     }
-    fill(second)
+    fill(input, second)
 }
 
-fn answer(bytes: &[u8]) {
-    io::write_all(STDOUT_FILENO, bytes);
+fn answer<W: Write>(output: &mut W, bytes: &[u8]) -> io::Result<()> {
+    output.write_all(bytes)
 }
 
-fn answer_set(error: u8, set: [u8; 9]) {
-    answer(&[error]);
-    answer(&set);
+fn answer_set<W: Write>(output: &mut W, error: u8, set: [u8; 9]) -> io::Result<()> {
+    answer(output, &[error])?;
+    answer(output, &set)
 }
 
-fn answer_progress(error: u8, consumed: u64, produced: u64) {
-    answer(&[error]);
-    answer(&long_bytes(consumed));
-    answer(&long_bytes(produced));
+fn answer_progress<W: Write>(
+    output: &mut W,
+    error: u8,
+    consumed: u64,
+    produced: u64,
+) -> io::Result<()> {
+    answer(output, &[error])?;
+    answer(output, &long_bytes(consumed))?;
+    answer(output, &long_bytes(produced))
 }
 
-fn answer_coded(coded: Coded) {
+fn answer_coded<W: Write>(output: &mut W, coded: Coded) -> io::Result<()> {
     match coded {
         Coded::Done(progress) => {
-            answer_progress(0, progress.consumed as u64, progress.produced as u64);
+            answer_progress(
+                output,
+                0,
+                progress.consumed as u64,
+                progress.produced as u64,
+            )
         }
-        Coded::Refused(error) => {
-            answer_progress(error.number(), 0, 0);
-        }
+        Coded::Refused(error) => answer_progress(output, error.number(), 0, 0),
     }
 }
 
-fn answer_encoded(coded: Coded, bytes: &[u8]) {
-    answer_coded(coded);
-    answer(bytes);
+fn answer_encoded<W: Write>(output: &mut W, coded: Coded, bytes: &[u8]) -> io::Result<()> {
+    answer_coded(output, coded)?;
+    answer(output, bytes)
 }
 
-fn answer_decoded(coded: Coded, samples: &[i16], raw: &mut [u8])
+fn answer_decoded<W: Write>(
+    output: &mut W,
+    coded: Coded,
+    samples: &[i16],
+    raw: &mut [u8],
+) -> io::Result<()>
     requires { length raw.old ≡ 2 * length samples.now }
 {
     pcm::write(samples, raw);
-    answer_encoded(coded, raw);
+    answer_encoded(output, coded, raw)
 }
 
-fn answer_seek(error: u8, offset: u64, skip: u32) {
-    answer(&[error]);
-    answer(&long_bytes(offset));
-    answer(&number_bytes(skip));
+fn answer_seek<W: Write>(output: &mut W, error: u8, offset: u64, skip: u32) -> io::Result<()> {
+    answer(output, &[error])?;
+    answer(output, &long_bytes(offset))?;
+    answer(output, &number_bytes(skip))
 }
 
-fn answer_sought(outcome: SeekOutcome) {
+fn answer_sought<W: Write>(output: &mut W, outcome: SeekOutcome) -> io::Result<()> {
     match outcome {
         SeekOutcome::At(request) => {
-            answer_seek(0, request.byte_offset, request.skip_frames);
+            answer_seek(output, 0, request.byte_offset, request.skip_frames)
         }
-        SeekOutcome::Refused(error) => {
-            answer_seek(error.number(), 0, 0);
-        }
+        SeekOutcome::Refused(error) => answer_seek(output, error.number(), 0, 0),
     }
 }
 
@@ -148,76 +162,84 @@ fn refusal(set: SbcParameters) -> u8 {
     }
 }
 
-fn answer_row(row: [u8; 8]) {
-    answer(&row);
+fn answer_row<W: Write>(output: &mut W, row: [u8; 8]) -> io::Result<()> {
+    answer(output, &row)
 }
 
-fn answer_rows(error: u8, rows: [[u8; 8]; 2]) {
+fn answer_rows<W: Write>(output: &mut W, error: u8, rows: [[u8; 8]; 2]) -> io::Result<()> {
     let left = rows[0];
     let right = rows[1];
-    answer(&[error]);
-    answer_row(left);
-    answer_row(right);
+    answer(output, &[error])?;
+    answer_row(output, left)?;
+    answer_row(output, right)
 }
 
 // The bits of the two rows of factors.
-fn answer_allocated(set: SbcParameters, left: [u8; 8], right: [u8; 8]) {
+fn answer_allocated<W: Write>(
+    output: &mut W,
+    set: SbcParameters,
+    left: [u8; 8],
+    right: [u8; 8],
+) -> io::Result<()> {
     let error = refusal(set);
     if error == 0 {
-        answer_rows(0, allocate(set, [left, right]));
-        return;
+        return answer_rows(output, 0, allocate(set, [left, right]));
     }
-    answer_rows(error, [[0u8; 8], [0u8; 8]]);
+    answer_rows(output, error, [[0u8; 8], [0u8; 8]])
 }
 
-fn answer_parsed(parsed: Parsed) {
+fn answer_parsed<W: Write>(output: &mut W, parsed: Parsed) -> io::Result<()> {
     match parsed {
-        Parsed::Parameters(set) => {
-            answer_set(0, bytes_of(set));
-        }
-        Parsed::Refused(error) => {
-            answer_set(error.number(), NO_SET);
-        }
+        Parsed::Parameters(set) => answer_set(output, 0, bytes_of(set)),
+        Parsed::Refused(error) => answer_set(output, error.number(), NO_SET),
     }
 }
 
-fn answer_last(last: LastParameters) {
-    answer(&[0]);
+fn answer_last<W: Write>(output: &mut W, last: LastParameters) -> io::Result<()> {
+    answer(output, &[0])?;
     match last {
-        LastParameters::Some(set) => {
-            answer_set(1, bytes_of(set));
-        }
-        LastParameters::None => {
-            answer_set(0, NO_SET);
-        }
+        LastParameters::Some(set) => answer_set(output, 1, bytes_of(set)),
+        LastParameters::None => answer_set(output, 0, NO_SET),
     }
 }
 
 // The call itself. The raw buffer holds the samples as they come and go.
-fn run_encoder(encoder: SbcEncoder, raw: &[u8], bytes: &mut [u8], samples: &mut [i16]) -> SbcEncoder
+fn run_encoder<W: Write>(
+    encoder: SbcEncoder,
+    output: &mut W,
+    raw: &[u8],
+    bytes: &mut [u8],
+    samples: &mut [i16],
+) -> io::Result<SbcEncoder>
     requires { length raw.now ≡ 2 * length samples.old }
 {
     pcm::read(raw, samples);
     let result = encoder.encoded(samples, bytes);
     let coded = result.answer;
-    answer_encoded(coded, bytes);
-    result.encoder
+    answer_encoded(output, coded, bytes)?;
+    Ok(result.encoder)
 }
 
-fn run_decoder(decoder: SbcDecoder, raw: &mut [u8], bytes: &[u8], samples: &mut [i16]) -> SbcDecoder
+fn run_decoder<W: Write>(
+    decoder: SbcDecoder,
+    output: &mut W,
+    raw: &mut [u8],
+    bytes: &[u8],
+    samples: &mut [i16],
+) -> io::Result<SbcDecoder>
     requires { length raw.old ≡ 2 * length samples.old }
 {
     pcm::read(raw, samples);
     let result = decoder.decoded(bytes, samples);
     let coded = result.answer;
-    answer_decoded(coded, samples, raw);
-    result.decoder
+    answer_decoded(output, coded, samples, raw)?;
+    Ok(result.decoder)
 }
 
 impl Sizes {
-    fn read() -> Sizes {
+    fn read<R: Read>(input: &mut R) -> Sizes {
         let mut l = [0u8; 8];
-        let came = fill(&mut l);
+        let came = fill(input, &mut l);
         Sizes {
             input: number(l[0], l[1], l[2], l[3]) as usize,
             output: number(l[4], l[5], l[6], l[7]) as usize,
@@ -275,190 +297,249 @@ impl Replay {
         self
     }
 
-    fn parse(self, bytes: &mut [u8]) -> Replay {
+    fn parse<R: Read, W: Write>(
+        self,
+        input: &mut R,
+        output: &mut W,
+        bytes: &mut [u8],
+    ) -> io::Result<Replay> {
         let mut length = [0u8; 2];
-        if !fill(&mut length) {
-            return self.stopped();
+        if !fill(input, &mut length) {
+            return Ok(self.stopped());
         }
         let count = number(length[0], length[1], 0, 0) as usize;
         if count > bytes.len() {
-            return self.stopped();
+            return Ok(self.stopped());
         }
-        self.parse_lent(&mut bytes[..count])
+        self.parse_lent(input, output, &mut bytes[..count])
     }
 
-    fn parse_lent(self, bytes: &mut [u8]) -> Replay {
-        if !fill(bytes) {
-            return self.stopped();
+    fn parse_lent<R: Read, W: Write>(
+        self,
+        input: &mut R,
+        output: &mut W,
+        bytes: &mut [u8],
+    ) -> io::Result<Replay> {
+        if !fill(input, bytes) {
+            return Ok(self.stopped());
         }
-        answer_parsed(SbcParameters::parse(bytes));
-        self
+        answer_parsed(output, SbcParameters::parse(bytes))?;
+        Ok(self)
     }
 
-    fn validate(self) -> Replay {
+    fn validate<R: Read, W: Write>(self, input: &mut R, output: &mut W) -> io::Result<Replay> {
         let mut set = NO_SET;
-        if !fill(&mut set) {
-            return self.stopped();
+        if !fill(input, &mut set) {
+            return Ok(self.stopped());
         }
-        answer(&[refusal(set_of(set))]);
-        self
+        answer(output, &[refusal(set_of(set))])?;
+        Ok(self)
     }
 
-    fn new_encoder(self) -> Replay {
+    fn new_encoder<R: Read, W: Write>(self, input: &mut R, output: &mut W) -> io::Result<Replay> {
         let mut set = NO_SET;
-        if !fill(&mut set) {
-            return self.stopped();
+        if !fill(input, &mut set) {
+            return Ok(self.stopped());
         }
         let created = SbcEncoder::new(set_of(set));
         let outcome = created.outcome;
         match outcome {
             Validated::Accepted => {
-                answer(&[0]);
+                answer(output, &[0])?;
                 let encoder = created.encoder;
-                self.with_encoder(encoder)
+                Ok(self.with_encoder(encoder))
             }
             Validated::Refused(error) => {
-                answer(&[error.number()]);
-                self
+                answer(output, &[error.number()])?;
+                Ok(self)
             }
         }
     }
 
-    fn encode(self, raw: &mut [u8], bytes: &mut [u8], samples: &mut [i16]) -> Replay {
-        let sizes = Sizes::read();
+    fn encode<R: Read, W: Write>(
+        self,
+        input: &mut R,
+        output: &mut W,
+        raw: &mut [u8],
+        bytes: &mut [u8],
+        samples: &mut [i16],
+    ) -> io::Result<Replay> {
+        let sizes = Sizes::read(input);
         let count = sizes.input;
         let room = sizes.output;
         if sizes.fit(count, room, raw.len(), samples.len(), bytes.len()) {
             return self.encode_lent(
+                input,
+                output,
                 &mut raw[..2 * count],
                 &mut bytes[..room],
                 &mut samples[..count],
             );
         }
-        self.stopped()
+        Ok(self.stopped())
     }
 
-    fn encode_lent(self, raw: &mut [u8], bytes: &mut [u8], samples: &mut [i16]) -> Replay
+    fn encode_lent<R: Read, W: Write>(
+        self,
+        input: &mut R,
+        output: &mut W,
+        raw: &mut [u8],
+        bytes: &mut [u8],
+        samples: &mut [i16],
+    ) -> io::Result<Replay>
         requires { length raw.old ≡ 2 * length samples.old }
     {
-        if !fill_both(raw, bytes) {
-            return self.stopped();
+        if !fill_both(input, raw, bytes) {
+            return Ok(self.stopped());
         }
-        let encoder = self.encoder;
-        self.with_encoder(run_encoder(encoder, raw, bytes, samples))
+        let encoder = run_encoder(self.encoder, output, raw, bytes, samples)?;
+        Ok(self.with_encoder(encoder))
     }
 
-    fn decode(self, raw: &mut [u8], bytes: &mut [u8], samples: &mut [i16]) -> Replay {
-        let sizes = Sizes::read();
+    fn decode<R: Read, W: Write>(
+        self,
+        input: &mut R,
+        output: &mut W,
+        raw: &mut [u8],
+        bytes: &mut [u8],
+        samples: &mut [i16],
+    ) -> io::Result<Replay> {
+        let sizes = Sizes::read(input);
         let count = sizes.input;
         let room = sizes.output;
         if sizes.fit(room, count, raw.len(), samples.len(), bytes.len()) {
             return self.decode_lent(
+                input,
+                output,
                 &mut raw[..2 * room],
                 &mut bytes[..count],
                 &mut samples[..room],
             );
         }
-        self.stopped()
+        Ok(self.stopped())
     }
 
-    fn decode_lent(self, raw: &mut [u8], bytes: &mut [u8], samples: &mut [i16]) -> Replay
+    fn decode_lent<R: Read, W: Write>(
+        self,
+        input: &mut R,
+        output: &mut W,
+        raw: &mut [u8],
+        bytes: &mut [u8],
+        samples: &mut [i16],
+    ) -> io::Result<Replay>
         requires { length raw.old ≡ 2 * length samples.old }
     {
-        if !fill_both(bytes, raw) {
-            return self.stopped();
+        if !fill_both(input, bytes, raw) {
+            return Ok(self.stopped());
         }
-        let decoder = self.decoder;
-        self.with_decoder(run_decoder(decoder, raw, bytes, samples))
+        let decoder = run_decoder(self.decoder, output, raw, bytes, samples)?;
+        Ok(self.with_decoder(decoder))
     }
 
-    fn seek(self) -> Replay {
+    fn seek<R: Read, W: Write>(self, input: &mut R, output: &mut W) -> io::Result<Replay> {
         let mut position = [0u8; 8];
-        if !fill(&mut position) {
-            return self.stopped();
+        if !fill(input, &mut position) {
+            return Ok(self.stopped());
         }
         let decoder = self.decoder;
         let sought = decoder.sought(long_number(position));
         let outcome = sought.outcome;
-        answer_sought(outcome);
+        answer_sought(output, outcome)?;
         let decoder = sought.decoder;
-        self.with_decoder(decoder)
+        Ok(self.with_decoder(decoder))
     }
 
-    fn allocate(self) -> Replay {
+    fn allocate<R: Read, W: Write>(self, input: &mut R, output: &mut W) -> io::Result<Replay> {
         let mut set = NO_SET;
         let mut left = [0u8; 8];
         let mut right = [0u8; 8];
-        if !fill(&mut set) {
-            return self.stopped();
+        if !fill(input, &mut set) {
+            return Ok(self.stopped());
         }
-        if !fill_both(&mut left, &mut right) {
-            return self.stopped();
+        if !fill_both(input, &mut left, &mut right) {
+            return Ok(self.stopped());
         }
-        answer_allocated(set_of(set), left, right);
-        self
+        answer_allocated(output, set_of(set), left, right)?;
+        Ok(self)
     }
 
-    fn finish(self) -> Replay {
-        answer(&[0]);
+    fn finish<W: Write>(self, output: &mut W) -> io::Result<Replay> {
+        answer(output, &[0])?;
         let decoder = self.decoder;
-        self.with_decoder(decoder.finished())
+        Ok(self.with_decoder(decoder.finished()))
     }
 
-    fn reset_decoder(self) -> Replay {
-        answer(&[0]);
+    fn reset_decoder<W: Write>(self, output: &mut W) -> io::Result<Replay> {
+        answer(output, &[0])?;
         let decoder = self.decoder;
-        self.with_decoder(decoder.restarted())
+        Ok(self.with_decoder(decoder.restarted()))
     }
 
-    fn reset_encoder(self) -> Replay {
-        answer(&[0]);
+    fn reset_encoder<W: Write>(self, output: &mut W) -> io::Result<Replay> {
+        answer(output, &[0])?;
         let encoder = self.encoder;
-        self.with_encoder(encoder.restarted())
+        Ok(self.with_encoder(encoder.restarted()))
     }
 
-    fn parameters(self) -> Replay {
+    fn parameters<W: Write>(self, output: &mut W) -> io::Result<Replay> {
         let decoder = self.decoder;
-        answer_last(decoder.parameters());
-        self
+        answer_last(output, decoder.parameters())?;
+        Ok(self)
     }
 
     // One request.
-    fn next(self, raw: &mut [u8], bytes: &mut [u8], samples: &mut [i16]) -> Replay {
+    fn next<R: Read, W: Write>(
+        self,
+        input: &mut R,
+        output: &mut W,
+        raw: &mut [u8],
+        bytes: &mut [u8],
+        samples: &mut [i16],
+    ) -> io::Result<Replay> {
         let mut request = [0u8; 1];
-        if !fill(&mut request) {
-            return self.stopped();
+        if !fill(input, &mut request) {
+            return Ok(self.stopped());
         }
         match request[0] {
-            b'P' => self.parse(bytes),
-            b'V' => self.validate(),
-            b'N' => self.new_encoder(),
-            b'E' => self.encode(raw, bytes, samples),
-            b'D' => self.decode(raw, bytes, samples),
-            b'S' => self.seek(),
-            b'F' => self.finish(),
-            b'R' => self.reset_decoder(),
-            b'r' => self.reset_encoder(),
-            b'Q' => self.parameters(),
-            b'A' => self.allocate(),
-            _ => self.stopped(),
+            b'P' => self.parse(input, output, bytes),
+            b'V' => self.validate(input, output),
+            b'N' => self.new_encoder(input, output),
+            b'E' => self.encode(input, output, raw, bytes, samples),
+            b'D' => self.decode(input, output, raw, bytes, samples),
+            b'S' => self.seek(input, output),
+            b'F' => self.finish(output),
+            b'R' => self.reset_decoder(output),
+            b'r' => self.reset_encoder(output),
+            b'Q' => self.parameters(output),
+            b'A' => self.allocate(input, output),
+            _ => Ok(self.stopped()),
         }
     }
 }
 
-// A proved loop has to end, and nothing says that the input does. So the loop counts its turns down, from a number that no run uses up.
-fn run(raw: &mut [u8], bytes: &mut [u8], samples: &mut [i16]) {
-    let mut turns = u64::MAX;
+// A proved loop has to end, and nothing says that the input does. So the loop counts its turns, up to a number that no run uses up.
+fn run<R: Read, W: Write>(
+    input: &mut R,
+    output: &mut W,
+    raw: &mut [u8],
+    bytes: &mut [u8],
+    samples: &mut [i16],
+) -> io::Result<()> {
     let mut replay = Replay::new();
-    while turns > 0 && replay.going {
-        replay = replay.next(raw, bytes, samples);
-        turns -= 1;
+    for _ in 0..u64::MAX {
+        if !replay.going {
+            break;
+        }
+        replay = replay.next(input, output, raw, bytes, samples)?;
     }
+    Ok(())
 }
 
-fn main() {
+fn main(rt: HostRuntime) -> io::Result<()> {
     let mut raw = [0u8; 131072];
     let mut bytes = [0u8; 65536];
     let mut samples = [0i16; 65536];
-    run(&mut raw, &mut bytes, &mut samples);
+    let mut input = rt.reader();
+    let mut output = io::writer(&rt);
+    run(&mut input, &mut output, &mut raw, &mut bytes, &mut samples)
 }
