@@ -1,5 +1,6 @@
 // The analysis filterbank of SBC, block by block.
 #![tactic(auto)]
+
 pub mod analysis;
 mod matrices;
 

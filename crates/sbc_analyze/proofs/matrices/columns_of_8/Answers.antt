@@ -6,12 +6,8 @@ use Rattle.sbc_tables.specs.Tables.{cosines}
 use Rattle.sbc_filterbank.specs.Subbands.{cosine_at}
 use Rattle.sbc_filterbank.specs.Analysis.{analysis_cosine}
 use Rattle.sbc_analyze.specs.Fold.{analysis_columns}
-use Rattle.sbc_analyze.proofs.matrices.columns_of_8.Statement.{statement}
-use Rattle.sbc_analyze.proofs.matrices.columns_of_8.Tie as tie
+use Rattle.sbc_analyze.proofs.matrices.columns_of_8.Goals as goal
 
-returns : tie.Need-returns
+pub returns : goal.returns
 unfolding analysis_columns collect build analysis_cosine cosine_at cosines
 returns c = refl
-
-pub columns-of-8-spec : {M : Type 1} → statement M
-columns-of-8-spec = tie.close (tie.spec returns)

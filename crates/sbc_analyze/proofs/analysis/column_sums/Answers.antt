@@ -1,0 +1,43 @@
+-- `sbc_analyze::analysis::column_sums` meets its contract. The loop's invariant: the places before i hold the sums, and the others 0.
+-- Assumes nothing.
+use mathlib.Core.Path.{◌∙◌}
+use native.Mathlib.Omega.{arith}
+use mir.Syntax.{w64}
+use Rattle.laws.proofs.Arrays.{fill_none, filled, stored}
+use Rattle.sbc_filterbank.proofs.Bands.{bands-le}
+use Rattle.sbc_analyze.proofs.Columns.{column-asks, column-sum-of}
+use Rattle.sbc_analyze.proofs.analysis.column_sums.Goals as goal
+
+pub loop-i-init : goal.loop-i-init
+loop-i-init c = (omega arith, fill_none 4 _)
+
+pub overflow_mul-i : goal.overflow_mul-i
+overflow_mul-i c = omega (arith, (column-asks _ _ _ c.requires.0 c.loop-i-test.true c.requires.1 c.requires.2).1)
+
+pub overflow_mul-odd : goal.overflow_mul-odd
+overflow_mul-odd c = omega (arith, (column-asks _ _ _ c.requires.0 c.loop-i-test.true c.requires.1 c.requires.2).1)
+
+pub overflow_add-i : goal.overflow_add-i
+overflow_add-i c = omega (arith, (column-asks _ _ _ c.requires.0 c.loop-i-test.true c.requires.1 c.requires.2).1)
+
+pub column_sum-requires : goal.column_sum-requires
+column_sum-requires c = (c.requires.1, c.requires.3, column-asks _ _ _ c.requires.0 c.loop-i-test.true c.requires.1 c.requires.2)
+
+pub offset_bounds-sums-i : goal.offset_bounds-sums-i
+offset_bounds-sums-i c = omega (arith, bands-le c.requires.0)
+
+pub bounds-sums-i : goal.bounds-sums-i
+bounds-sums-i c = omega (arith, bands-le c.requires.0)
+
+pub overflow_step-i : goal.overflow_step-i
+overflow_step-i c = omega (arith, bands-le c.requires.0)
+
+pub loop-i-preserved : goal.loop-i-preserved
+loop-i-preserved c = (
+  omega arith,
+  stored w64 4 _ _ _ _ (record { sfits = c.column_sum.type_inv }) (omega (arith, bands-le c.requires.0))
+      c.loop-i.invariant.1 (c.column_sum.ensures ∙ column-sum-of _ _ _ _ _ c.requires.2),
+)
+
+pub returns : goal.returns
+returns c = filled 4 _ _ _ _ (omega arith) (omega arith) c.loop-i.invariant.1

@@ -1,0 +1,32 @@
+-- `sbc_analyze::analysis::output_all` meets its contract. The loop's invariant: the places before i hold the outputs, and the others 0.
+-- Assumes nothing.
+use native.Mathlib.Omega.{arith}
+use mir.Syntax.{w32}
+use Rattle.laws.proofs.Arrays.{fill_none, filled, stored}
+use Rattle.sbc_filterbank.proofs.Bands.{bands-le}
+use Rattle.sbc_analyze.proofs.analysis.output_all.Goals as goal
+
+pub loop-i-init : goal.loop-i-init
+loop-i-init c = (omega arith, fill_none 8 _)
+
+pub output-requires : goal.output-requires
+output-requires c = (c.requires.0, c.loop-i-test.true, c.requires.1, c.requires.2)
+
+pub offset_bounds-samples-i : goal.offset_bounds-samples-i
+offset_bounds-samples-i c = omega (arith, bands-le c.requires.0)
+
+pub bounds-samples-i : goal.bounds-samples-i
+bounds-samples-i c = omega (arith, bands-le c.requires.0)
+
+pub overflow_step-i : goal.overflow_step-i
+overflow_step-i c = omega (arith, bands-le c.requires.0)
+
+pub loop-i-preserved : goal.loop-i-preserved
+loop-i-preserved c = (
+  omega arith,
+  stored w32 8 _ _ _ _ (record { sfits = c.output.type_inv }) (omega (arith, bands-le c.requires.0))
+      c.loop-i.invariant.1 c.output.ensures,
+)
+
+pub returns : goal.returns
+returns c = filled 8 _ _ _ _ (omega arith) (omega arith) c.loop-i.invariant.1

@@ -1,0 +1,18 @@
+-- `sbc_analyze::analysis::windows` meets its contract. The loop's invariant: the places before k hold Y, which is within the bound, and the
+-- others 0.
+-- Assumes nothing.
+use Prim.Native.Nat.{ℕ, ◌*◌, ◌-◌, ◌≤◌, ◌<◌}
+use mathlib.Core.Path.{◌≡◌}
+use lib.IntN.{nat_abs}
+use Rattle.laws.specs.Lists.{build}
+use Rattle.laws.specs.Sums.{up_to}
+use Rattle.sbc_filterbank.specs.Analysis.{windowed}
+use Rattle.sbc_analyze.proofs.analysis.windows.Given as goal
+
+abbrev pub invariant-loop-k : goal.invariant-loop-k
+invariant-loop-k l =
+    (l.k ≤ 2 * l.subbands) × (l.partial ≡ build 16 (up_to l.k (windowed l.subbands l.history)))
+    × ((i : ℕ) → i < l.k → nat_abs (windowed l.subbands l.history i) ≤ 400000000)
+
+abbrev pub decreases-loop-k : goal.decreases-loop-k
+decreases-loop-k l = 2 * l.subbands - l.k
