@@ -1,6 +1,5 @@
 -- Samples of 16 bits and their two bytes, the low byte first.
-use Rattle.std.specs.Prelude.{ℕ, ◌+◌, ◌-◌, ◌*◌, ◌/◌, ◌%◌, List, ltb, get_or, ℤ, pos, negsuc}
-use Rattle.laws.specs.Choice.{if◌then◌else◌}
+use Rattle.std.specs.Prelude.{ℕ, ◌+◌, ◌-◌, ◌*◌, ◌/◌, ◌%◌, List, ltb, get_or, ℤ, pos, negsuc, if◌then◌else◌}
 use Rattle.laws.specs.Lists.{build}
 
 -- the sample whose two's complement is n: n below 32768, and n - 65536 from there on (negsuc k is -1 - k)

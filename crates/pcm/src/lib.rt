@@ -1,5 +1,6 @@
 // Samples of 16 bits as bytes, little endian.
 #![tactic(auto)]
+
 ghost use Rattle.std.specs.Prelude.{◌≡◌, [], ◌∷◌, ◌*◌, ◌/◌, ◌%◌, length, get_or, pos};
 ghost use Rattle.laws.specs.Lists.{collect};
 ghost use Rattle.pcm.specs.Samples.{signed_of, unsigned_of, sample_of, samples_in, low_byte, high_byte};

@@ -8,11 +8,9 @@ use lib.IntN.{pos, negsuc, ◌-ℤ◌}
 use mir.Syntax.{w16}
 use mir.Val.{SFits, to_z, of_z}
 use mir.Facts.{to_z_pos, to_z-of_z}
-use borrow.Author.Rules.{rules}
 use borrow.Author.Tests.{lt-ltb, le-ltb}
 use Rattle.pcm.specs.Samples.{signed_of}
-use Rattle.pcm.proofs.signed.Statement.{statement}
-use Rattle.pcm.proofs.signed.Tie as tie
+use Rattle.pcm.proofs.signed.Goals as goal
 
 -- -1 less a number below 2 ^ 15
 minus : (m : ℕ) → negsuc 0 -ℤ pos m ≡ negsuc m
@@ -36,24 +34,11 @@ read_back : (n : ℕ) → 32768 ≤ n → to_z w16 (of_z w16 (negsuc 0 -ℤ to_z
 read_back n h =
     rw (to_z_pos w16 {n = 65535 - n} (omega arith)) (to_z-of_z (low (65535 - n) (omega arith)) ∙ minus (65535 - n) ∙ sym (from n h))
 
-cast-result : tie.Need-overflow-cast-result
-cast-result c = search rules
+pub returns-then-n-lt32768 : goal.returns-then-n-lt32768
+returns-then-n-lt32768 c = to_z_pos w16 {n = c.args.n} (omega arith) ∙ sym (below c.args.n (omega arith))
 
-returns : tie.Need-returns
-returns c = to_z_pos w16 {n = c.before.args.n} (omega arith) ∙ sym (below c.before.args.n (omega arith))
+pub overflow_sub-result-2 : goal.overflow_sub-result-2
+overflow_sub-result-2 c = rw (to_z_pos w16 {n = 65535 - c.args.n} (omega arith)) (low (65535 - c.args.n) (omega arith))
 
-sub-result : tie.Need-overflow-sub-result
-sub-result c = search rules
-
-cast-result-2 : tie.Need-overflow-cast-result-2
-cast-result-2 c = search rules
-
-sub-result-2 : tie.Need-overflow-sub-result-2
-sub-result-2 c = rw (to_z_pos w16 {n = 65535 - c.before.args.n} (omega arith)) (low (65535 - c.before.args.n) (omega arith))
-
-returns-2 : tie.Need-returns-2
-returns-2 c = read_back c.before.args.n (omega arith)
-
-pub signed-spec : {M : Type 1} → statement M
-signed-spec =
-    tie.close (tie.spec cast-result returns sub-result cast-result-2 sub-result-2 returns-2)
+pub returns : goal.returns
+returns c = read_back c.args.n (omega arith)

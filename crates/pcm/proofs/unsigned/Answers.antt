@@ -13,8 +13,7 @@ use mir.Facts.{to_z-of_z}
 use borrow.Author.Tests.{ltb-true}
 use Rattle.laws.proofs.Difference.{sub-of-le}
 use Rattle.pcm.specs.Samples.{unsigned_of}
-use Rattle.pcm.proofs.unsigned.Statement.{statement}
-use Rattle.pcm.proofs.unsigned.Tie as tie
+use Rattle.pcm.proofs.unsigned.Goals as goal
 
 -- ---- over plain integers
 mirrored : (z : ℤ) → SFits w16 z → lt_z z (pos 0) ≡ true → (negsuc 0 -ℤ z ≡ pos (nat_abs z - 1)) × (nat_abs z - 1 < 32768)
@@ -52,32 +51,28 @@ module _ {s : ℤ} (f : SFits w16 s) (h : lt_z (to_z w16 (of_z w16 s)) (pos 0) �
   value : 65535 - nat_abs (to_z w16 (of_z w16 (negsuc 0 -ℤ to_z w16 (of_z w16 s)))) ≡ unsigned_of s
   value = ap (λ z. 65535 - nat_abs z) back ∙ value-below s (rw (to_z-of_z f) at h)
 
-sub-result : tie.Need-overflow-sub-result
-sub-result c = fits c.before.ranges.sample c.if1.true
+pub overflow_sub-result : goal.overflow_sub-result
+overflow_sub-result c = fits c.ranges.sample c.if-sample-lt0.true
 
-cast-result : tie.Need-overflow-cast-result
-cast-result c =
-    rw (back c.before.ranges.sample c.if1.true)
-    (tt, record { fits = omega (arith, (facts c.before.ranges.sample c.if1.true).1) })
+pub overflow_cast-result : goal.overflow_cast-result
+overflow_cast-result c =
+    rw (back c.ranges.sample c.if-sample-lt0.true)
+    (tt, record { fits = omega (arith, (facts c.ranges.sample c.if-sample-lt0.true).1) })
 
-sub-result-2 : tie.Need-overflow-sub-result-2
-sub-result-2 c =
-    rw (back c.before.ranges.sample c.if1.true)
-    (omega (arith, (facts c.before.ranges.sample c.if1.true).1))
+pub overflow_sub-result-then-sample-lt0 : goal.overflow_sub-result-then-sample-lt0
+overflow_sub-result-then-sample-lt0 c =
+    rw (back c.ranges.sample c.if-sample-lt0.true)
+    (omega (arith, (facts c.ranges.sample c.if-sample-lt0.true).1))
 
-returns : tie.Need-returns
-returns c = value c.before.ranges.sample c.if1.true
+pub returns-then-sample-lt0 : goal.returns-then-sample-lt0
+returns-then-sample-lt0 c = value c.ranges.sample c.if-sample-lt0.true
 
-cast-result-2 : tie.Need-overflow-cast-result-2
-cast-result-2 c =
-    rw (to_z-of_z c.before.ranges.sample)
-    (kept c.before.args.sample c.before.ranges.sample (rw (to_z-of_z c.before.ranges.sample) at c.if1.false))
+pub overflow_cast-result-2 : goal.overflow_cast-result-2
+overflow_cast-result-2 c =
+    rw (to_z-of_z c.ranges.sample)
+    (kept c.args.sample c.ranges.sample (rw (to_z-of_z c.ranges.sample) at c.if-sample-lt0.false))
 
-returns-2 : tie.Need-returns-2
-returns-2 c =
-    let same = to_z-of_z c.before.ranges.sample in
-    ap nat_abs same ∙ value-from c.before.args.sample (rw same at c.if1.false)
-
-pub unsigned-spec : {M : Type 1} → statement M
-unsigned-spec =
-    tie.close (tie.spec sub-result cast-result sub-result-2 returns cast-result-2 returns-2)
+pub returns : goal.returns
+returns c =
+    let same = to_z-of_z c.ranges.sample in
+    ap nat_abs same ∙ value-from c.args.sample (rw same at c.if-sample-lt0.false)

@@ -1,0 +1,67 @@
+-- `pcm::write` meets its contract. The loop's invariant: as many bytes as before, and those of the first i samples are written.
+-- Assumes nothing.
+use Prim.Native.Nat.{ℕ, suc, ◌+◌, ◌*◌, ◌/◌, ◌%◌, ◌<◌}
+use mathlib.Core.Path.{◌≡◌, refl, sym, ap, ap₂, ◌∙◌}
+use mathlib.Core.List.{List, [], ◌∷◌, ◌++◌, append_assoc}
+use native.Mathlib.Numerals.{add-one}
+use native.Mathlib.Omega.{arith}
+use lib.ListN.{length, get_or, take, set, length-set}
+use lib.Seq.{take_all, take-suc-set}
+use lib.IntN.{ℤ, pos}
+use mir.Syntax.{w16}
+use mir.Val.{to_z, of_z}
+use mir.Facts.{to_z-of_z}
+use borrow.Author.Rules.{rules}
+use Rattle.laws.specs.Lists.{collect}
+use Rattle.pcm.specs.Samples.{unsigned_of, low_byte, high_byte}
+use Rattle.pcm.proofs.write.Invariants.{bytes_at}
+use Rattle.pcm.proofs.write.Goals as goal
+
+none_written : (f : ℕ → List ℕ) (xs : List ℕ) → take (2 * 0) xs ≡ collect 0 f
+unfolding collect
+none_written f xs = refl
+
+-- two more are written
+written_next : (f : ℕ → List ℕ) (xs : List ℕ) (i a b : ℕ) → 2 * i + 1 < length xs → take (2 * i) xs ≡ collect i f → (a ∷ b ∷ []) ≡ f i
+    → take (2 * (i + 1)) (set (set xs (2 * i) a) (2 * i + 1) b) ≡ collect (i + 1) f
+unfolding collect
+written_next f xs i a b h e q =
+    let ys : List ℕ = set xs (2 * i) a in
+    let two : 2 * (i + 1) ≡ suc (2 * i + 1) = omega arith in
+    ap (λ (n : ℕ). take n (set ys (2 * i + 1) b)) two
+    ∙ take-suc-set ys (2 * i + 1) b (omega (arith, length-set xs (2 * i) a))
+    ∙ ap (λ (n : ℕ). take n ys ++ (b ∷ [])) (add-one (2 * i))
+    ∙ ap (λ (l : List ℕ). l ++ (b ∷ [])) (take-suc-set xs (2 * i) a (omega arith))
+    ∙ append_assoc (take (2 * i) xs) (a ∷ []) (b ∷ [])
+    ∙ ap₂ (λ (l m : List ℕ). l ++ m) e q
+    ∙ ap (λ (n : ℕ). collect n f) (sym (add-one i))
+
+-- the bytes of a sample, from its two's complement
+two_bytes : (z : ℤ) (n a b : ℕ) → n ≡ unsigned_of z → a ≡ n % 256 → b ≡ n / 256 % 256 → (a ∷ b ∷ []) ≡ (low_byte z ∷ high_byte z ∷ [])
+unfolding low_byte high_byte
+two_bytes z n a b e p q =
+    ap₂ (λ (l h : ℕ). l ∷ h ∷ []) (p ∙ ap (λ (m : ℕ). m % 256) e) (q ∙ ap (λ (m : ℕ). m / 256 % 256) e)
+
+pub loop-i-init : goal.loop-i-init
+loop-i-init c = (omega arith, refl, none_written _ c.args.bytes.now)
+
+pub bounds-bytes-i-in-loop-i : goal.bounds-bytes-i-in-loop-i
+bounds-bytes-i-in-loop-i c = simp length-set (omega arith)
+
+pub loop-i-preserved : goal.loop-i-preserved
+loop-i-preserved c =
+    let l = c.loop-i in
+    let z : ℤ = get_or c.args.samples.now l.i (pos 0) in
+    let back : to_z w16 (of_z w16 z) ≡ z = to_z-of_z {w = w16} (record { sfits = search rules }) in
+    let value : c.unsigned-n.result ≡ unsigned_of z = c.unsigned-n.ensures ∙ ap unsigned_of back in (
+      omega arith,
+      length-set (set l.bytes (2 * l.i) _) (2 * l.i + 1) _ ∙ length-set l.bytes (2 * l.i) _ ∙ l.invariant.1,
+      written_next _ l.bytes l.i _ _ (omega arith) l.invariant.2
+          (two_bytes z _ _ _ value c.low_byte.ensures c.high_byte.ensures),
+    )
+
+pub returns : goal.returns
+returns c =
+    let l = c.loop-i in
+    let e : l.i ≡ length c.args.samples.now = omega arith in
+    sym (take_all (2 * l.i) l.bytes (omega arith)) ∙ l.invariant.2 ∙ ap (λ (n : ℕ). collect n (bytes_at c.args.samples.now)) e
