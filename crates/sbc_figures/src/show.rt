@@ -1,47 +1,46 @@
 // What the program writes: words, numbers with a space before each, and verdicts.
 use codec::{Coded, Error};
-use libc::STDOUT_FILENO;
+use std::io;
 
-pub fn text(bytes: &[u8]) {
-    io::write_all(STDOUT_FILENO, bytes);
+pub fn text(rt: &impl Print, words: &str) -> io::Result<()> {
+    rt.print(words)
 }
 
-pub fn number(n: u64) {
-    text(b" ");
-    io::print_decimal(STDOUT_FILENO, n);
+pub fn number(rt: &impl Print, n: u64) -> io::Result<()> {
+    print!(rt; " {n}")
 }
 
-pub fn byte(n: u8) {
-    number(n as u64);
+pub fn byte(rt: &impl Print, n: u8) -> io::Result<()> {
+    number(rt, n as u64)
 }
 
-pub fn end_line() {
-    text(b"\n");
+pub fn end_line(rt: &impl Print) -> io::Result<()> {
+    text(rt, "\n")
 }
 
-pub fn refusal(error: Error) {
-    text(b" refused");
-    byte(error.number());
+pub fn refusal(rt: &impl Print, error: Error) -> io::Result<()> {
+    text(rt, " refused")?;
+    byte(rt, error.number())
 }
 
 // What a call consumed and produced.
-pub fn progress(coded: Coded) {
+pub fn progress(rt: &impl Print, coded: Coded) -> io::Result<()> {
     match coded {
         Coded::Done(progress) => {
-            number(progress.consumed as u64);
-            number(progress.produced as u64);
+            number(rt, progress.consumed as u64)?;
+            number(rt, progress.produced as u64)
         }
-        Coded::Refused(error) => refusal(error),
+        Coded::Refused(error) => refusal(rt, error),
     }
 }
 
 // Whether the code gives what the label says.
-pub fn holds(label: &[u8], ok: bool) {
-    text(label);
+pub fn holds(rt: &impl Print, label: &str, ok: bool) -> io::Result<()> {
+    text(rt, label)?;
     if ok {
-        text(b" holds");
+        text(rt, " holds")?;
     } else {
-        text(b" fails");
+        text(rt, " fails")?;
     }
-    end_line();
+    end_line(rt)
 }
