@@ -1,5 +1,6 @@
 // What each subband needs: from its scale factor and, by loudness, from the table of offsets.
 #![tactic(auto)]
+
 ghost use Rattle.std.specs.Prelude.{◌≡◌, [], ◌≤◌, ◌<◌, get_or, pos};
 ghost use Rattle.std.specs.Int.Signed.{mag};
 ghost use Rattle.sbc_parameters.specs.Header.{frequency_index};
