@@ -1,7 +1,6 @@
 -- A decoder as numbers, and its calls on them: what the state stands for goes through the call of sbc_decoder, and the result is numbers again. A state that
 -- stands for no decoder is refused with InvalidParameter, and stays.
-use Rattle.std.specs.Prelude.{ℕ, ◌+◌, Bool, ◌&&◌, List, [], ◌∷◌, eqb, ltb, ℤ, get_or}
-use Rattle.laws.specs.Choice.{if◌then◌else◌}
+use Rattle.std.specs.Prelude.{ℕ, ◌+◌, Bool, ◌&&◌, List, [], ◌∷◌, eqb, ltb, ℤ, get_or, if◌then◌else◌}
 use Rattle.laws.specs.Answers.{Told, gives, refuses}
 use Rattle.sbc_filterbank.specs.declared.synthesis.Synthesis.{Synthesis}
 use Rattle.sbc_decoder.specs.Decode.{Decoded, finish, decode}

@@ -1,6 +1,5 @@
 -- An encoder as numbers, and its calls on them, as those of a decoder. A state stands for an encoder where its parameters are a set.
-use Rattle.std.specs.Prelude.{ℕ, List, [], ℤ, get_or}
-use Rattle.laws.specs.Choice.{if◌then◌else◌}
+use Rattle.std.specs.Prelude.{ℕ, List, [], ℤ, get_or, if◌then◌else◌}
 use Rattle.laws.specs.Answers.{refuses}
 use Rattle.sbc_encoder.specs.Encode.{Encoded, encoder_of, reset_encoder, encode}
 use Rattle.sbc_encoder.specs.Told.{encoder_with}

@@ -1,6 +1,5 @@
 -- The numbers that cross to C, and what they stand for: parameters, and what a call gives back.
-use Rattle.std.specs.Prelude.{ℕ, Bool, ◌&&◌, ltb, get_or}
-use Rattle.laws.specs.Choice.{if◌then◌else◌}
+use Rattle.std.specs.Prelude.{ℕ, Bool, ◌&&◌, ltb, get_or, if◌then◌else◌}
 use Rattle.laws.specs.Answers.{Told, gives, refuses}
 use Rattle.sbc_modes.specs.Modes.{channel_modes, allocations, mode_number, allocation_number}
 use Rattle.sbc_parameters.specs.Parameters.{accepted}

@@ -1,6 +1,5 @@
 -- What an encode or decode call gives back, by document 01's numbers ("Given back").
-use Rattle.std.specs.Prelude.{ℕ, ◌+◌, ◌/◌, min, Bool, ◌&&◌, eqb}
-use Rattle.laws.specs.Choice.{if◌then◌else◌}
+use Rattle.std.specs.Prelude.{ℕ, ◌+◌, ◌/◌, min, Bool, ◌&&◌, eqb, if◌then◌else◌}
 use Rattle.laws.specs.Answers.{Told, gives, refuses}
 use Rattle.codec.specs.Errors.{error_number}
 use Rattle.codec.specs.declared.Progress.{Progress}

@@ -2,10 +2,10 @@
 -- Assumes nothing.
 use mathlib.Core.Path.{◌≡◌, refl}
 use mathlib.Core.Bool.{Bool, true, false, ◌&&◌}
-use Rattle.laws.specs.Choice.{if◌then◌else◌}
+use Rattle.std.specs.Prelude.{if◌then◌else◌}
 
 -- what holds of each of two choices, in its case, holds of the choice: by one test, and by two at once
-module _ {ℓ κ} {A : Type ℓ} (P : A → Type κ) where
+module _ {κ} {A : Type 0} (P : A → Type κ) where
   pub by-test : (b : Bool) (x y : A) → (b ≡ true → P x) → (b ≡ false → P y) → P (if b then x else y)
   by-test true x y f g = f refl
   by-test false x y f g = g refl

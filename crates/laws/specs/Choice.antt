@@ -1,7 +1,2 @@
--- A choice by a test.
-use Rattle.std.specs.Prelude.{Bool, true, false}
-
-infix 1 if◌then◌else◌
-abbrev pub if◌then◌else◌ {ℓ} : {A : Type ℓ} → Bool → A → A → A
-if true then a else b = a
-if false then a else b = b
+-- A choice by a test, which is the library's.
+pub use Rattle.std.specs.Prelude.{if◌then◌else◌}

@@ -1,9 +1,8 @@
 -- Integers: the division that rounds down, the range of a signed width, and bounds of a list's entries.
-use Rattle.std.specs.Prelude.{ℕ, ◌-◌, ◌^◌, ◌≤◌, List, get_or, ℤ, pos, negsuc, nat_abs}
+use Rattle.std.specs.Prelude.{ℕ, ◌-◌, ◌^◌, ◌≤◌, List, get_or, ℤ, pos, negsuc, nat_abs, if◌then◌else◌}
 use Rattle.std.specs.Int.Signed.{lt_z, shr_z}
 use Rattle.std.specs.Int.{Width}
 use mir.Val.{hbits}
-use Rattle.laws.specs.Choice.{if◌then◌else◌}
 
 -- z ÷ m rounded down, with the divisor written out (2 ^ k), which is what the machine's `>>` by k gives
 abbrev pub floor_div : ℤ → ℕ → ℤ

@@ -1,6 +1,5 @@
 -- Sums of integers by index, and arrays that a loop fills.
-use Rattle.std.specs.Prelude.{ℕ, zero, suc, ◌+◌, List, eqb, ltb, set, ℤ, pos, ◌+ℤ◌}
-use Rattle.laws.specs.Choice.{if◌then◌else◌}
+use Rattle.std.specs.Prelude.{ℕ, zero, suc, ◌+◌, List, eqb, ltb, set, ℤ, pos, ◌+ℤ◌, if◌then◌else◌}
 
 -- f 0 + f 1 + .. + f (n - 1)
 unfoldable pub sum_z : ℕ → (ℕ → ℤ) → ℤ

@@ -11,7 +11,7 @@ use lib.Dec.{lit≤, eqb, ltb}
 use borrow.Author.Tests.{ltb-true, ltb-false, eqb-true, eqb-false, ne_eqb}
 use lib.IntN.{ℤ, pos, nat_abs}
 use lib.ListN.{get_or, replicate, get_or-replicate, get_or-eq_default}
-use Rattle.laws.specs.Choice.{if◌then◌else◌}
+use Rattle.std.specs.Prelude.{if◌then◌else◌}
 use Rattle.laws.specs.Lists.{greatest}
 use Rattle.laws.specs.Bits.{digit}
 use Rattle.laws.proofs.Cases.{by-test}

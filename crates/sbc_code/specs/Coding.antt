@@ -1,8 +1,7 @@
 -- What the code of the encoder codes of a frame, for the contracts of its inner functions alone: scale factors in rows of eight, and the samples of
 -- each channel in an array of 128, eight places a block. No call of a user's cites this.
 -- From document 01, "Quantizing" and "Joint stereo".
-use Rattle.std.specs.Prelude.{ℕ, ◌<◌, ◌≤◌, ◌≡◌, List, [], ◌∷◌, eqb, length, get_or, replicate, ℤ}
-use Rattle.laws.specs.Choice.{if◌then◌else◌}
+use Rattle.std.specs.Prelude.{ℕ, ◌<◌, ◌≤◌, ◌≡◌, List, [], ◌∷◌, eqb, length, get_or, replicate, ℤ, if◌then◌else◌}
 use Rattle.laws.specs.Bits.{digit}
 use Rattle.sbc_parameters.specs.Parameters.{channels}
 use Rattle.sbc_parameters.specs.Sizes.{join_count}

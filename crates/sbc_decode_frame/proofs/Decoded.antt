@@ -10,7 +10,7 @@ use lib.Dec.{ltb}
 use lib.ListN.{get_or}
 use lib.IntN.{ℤ, pos}
 use borrow.Author.Tests.{ltb-true}
-use Rattle.laws.specs.Choice.{if◌then◌else◌}
+use Rattle.std.specs.Prelude.{if◌then◌else◌}
 use Rattle.laws.proofs.Lists.{build-ext}
 use Rattle.sbc_parameters.specs.declared.SbcParameters.{SbcParameters}
 use Rattle.sbc_parameters.specs.Parameters.{channels, accepted}

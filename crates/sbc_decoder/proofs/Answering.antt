@@ -5,7 +5,7 @@ use mathlib.Core.Path.{◌≡◌, refl, sym}
 use mathlib.Core.Bool.{Bool, true, false}
 use lib.Dec.{eqb}
 use borrow.Author.Tests.{eqb-true}
-use Rattle.laws.specs.Choice.{if◌then◌else◌}
+use Rattle.std.specs.Prelude.{if◌then◌else◌}
 use Rattle.laws.specs.Answers.{gives, refuses}
 use Rattle.laws.proofs.Answers.{gives_same, gives-refuses}
 use Rattle.sbc_decoder.specs.Decode.{Step, none_whole, refused, taken, answer_of}

@@ -1,7 +1,6 @@
 -- The decoder and its call: from the decoder, the bytes and the output at entry to the answer, the next decoder and the output at exit.
 -- From document 01, "Calls" and "Given back".
-use Rattle.std.specs.Prelude.{ℕ, zero, suc, ◌+◌, ◌-◌, ◌*◌, min, max, Bool, true, false, List, ◌++◌, eqb, ℤ, length, take, drop, replicate}
-use Rattle.laws.specs.Choice.{if◌then◌else◌}
+use Rattle.std.specs.Prelude.{ℕ, zero, suc, ◌+◌, ◌-◌, ◌*◌, min, max, Bool, true, false, List, ◌++◌, eqb, ℤ, length, take, drop, replicate, if◌then◌else◌}
 use Rattle.laws.specs.Answers.{Told, gives}
 use Rattle.sbc_parameters.specs.Parameters.{channels}
 use Rattle.sbc_parameters.specs.Sizes.{frame_length, samples_per_channel, frame_samples}

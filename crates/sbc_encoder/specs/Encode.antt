@@ -1,7 +1,6 @@
 -- The encoder and its call: from the encoder, the PCM and the output at entry to the answer, the next encoder and the output at exit.
 -- From document 01, "Calls" and "Given back".
-use Rattle.std.specs.Prelude.{ℕ, zero, suc, ◌*◌, List, [], ◌∷◌, ◌++◌, map, ltb, ℤ, length, drop, replicate}
-use Rattle.laws.specs.Choice.{if◌then◌else◌}
+use Rattle.std.specs.Prelude.{ℕ, zero, suc, ◌*◌, List, [], ◌∷◌, ◌++◌, map, ltb, ℤ, length, drop, replicate, if◌then◌else◌}
 use Rattle.laws.specs.Answers.{Told, gives, refuses}
 use Rattle.sbc_parameters.specs.Parameters.{accepted}
 use Rattle.sbc_parameters.specs.Sizes.{frame_length, frame_samples}

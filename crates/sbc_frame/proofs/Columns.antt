@@ -16,7 +16,7 @@ use mir.Syntax.{w32}
 use mir.Val.{SFits, to_z, of_z}
 use mir.Facts.{to_z-of_z}
 use borrow.Author.Tests.{lt-ltb, le-ltb, eq-eqb, ltb-true, ltb-false, eqb-true, eqb-false}
-use Rattle.laws.specs.Choice.{if◌then◌else◌}
+use Rattle.std.specs.Prelude.{if◌then◌else◌}
 use Rattle.laws.proofs.Cases.{by-test, by_both}
 use Rattle.laws.proofs.Lists.{length-build, get_or-build, get_or-build-out, build-is}
 use Rattle.laws.specs.Lists.{build}

@@ -1,8 +1,7 @@
 -- How the code of both directions holds what belongs to subbands, for the contracts of its inner functions alone: a number for each subband in a
 -- row of eight, and the subband samples of a channel in an array of 128, eight places a block. No call of a user's cites this.
 -- From document 01, "Parameters", "Quantizing" and "Joint stereo".
-use Rattle.std.specs.Prelude.{ℕ, ◌+◌, ◌*◌, ◌/◌, ◌%◌, ◌≤◌, ◌<◌, ◌≡◌, ◌&&◌, List, eqb, ltb, get_or, ℤ, pos, nat_abs}
-use Rattle.laws.specs.Choice.{if◌then◌else◌}
+use Rattle.std.specs.Prelude.{ℕ, ◌+◌, ◌*◌, ◌/◌, ◌%◌, ◌≤◌, ◌<◌, ◌≡◌, ◌&&◌, List, eqb, ltb, get_or, ℤ, pos, nat_abs, if◌then◌else◌}
 use Rattle.laws.specs.Lists.{build}
 use Rattle.laws.specs.Sums.{up_to}
 use Rattle.sbc_frame.specs.Encoding.{sample_at}

@@ -1,6 +1,5 @@
 -- One frame decoded: from its fields and the synthesis histories to PCM. From document 01, "Quantizing" and "Joint stereo".
-use Rattle.std.specs.Prelude.{ℕ, List, eqb, ltb, get_or, ℤ, ◌+ℤ◌, ◌-ℤ◌}
-use Rattle.laws.specs.Choice.{if◌then◌else◌}
+use Rattle.std.specs.Prelude.{ℕ, List, eqb, ltb, get_or, ℤ, ◌+ℤ◌, ◌-ℤ◌, if◌then◌else◌}
 use Rattle.laws.specs.Lists.{build}
 use Rattle.sbc_parameters.specs.Parameters.{channels}
 use Rattle.sbc_parameters.specs.declared.SbcParameters.{SbcParameters}

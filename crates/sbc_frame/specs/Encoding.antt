@@ -1,6 +1,5 @@
 -- One frame encoded: from PCM and the analysis histories to its fields. From document 01, "Quantizing" and "Joint stereo".
-use Rattle.std.specs.Prelude.{ℕ, ◌+◌, Bool, ◌&&◌, List, [], eqb, ltb, get_or, ℤ, pos, nat_abs, ◌+ℤ◌, ◌-ℤ◌}
-use Rattle.laws.specs.Choice.{if◌then◌else◌}
+use Rattle.std.specs.Prelude.{ℕ, ◌+◌, Bool, ◌&&◌, List, [], eqb, ltb, get_or, ℤ, pos, nat_abs, ◌+ℤ◌, ◌-ℤ◌, if◌then◌else◌}
 use Rattle.laws.specs.Lists.{build, greatest}
 use Rattle.laws.specs.Integers.{floor_div}
 use Rattle.sbc_modes.specs.Modes.{is_joint}

@@ -1,8 +1,7 @@
 -- How the code takes joint stereo, for the contracts of its inner functions alone: rows of eight, and arrays of 128
 -- samples, eight places a block. No call of a user's cites this.
 -- From document 01, "Joint stereo".
-use Rattle.std.specs.Prelude.{ℕ, ◌+◌, ◌&&◌, List, eqb, ltb, get_or, ℤ, pos, ◌+ℤ◌, ◌-ℤ◌}
-use Rattle.laws.specs.Choice.{if◌then◌else◌}
+use Rattle.std.specs.Prelude.{ℕ, ◌+◌, ◌&&◌, List, eqb, ltb, get_or, ℤ, pos, ◌+ℤ◌, ◌-ℤ◌, if◌then◌else◌}
 use Rattle.laws.specs.Lists.{build}
 use Rattle.laws.specs.Bits.{digit}
 use Rattle.laws.specs.Integers.{floor_div}

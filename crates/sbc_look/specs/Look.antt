@@ -1,7 +1,6 @@
 -- Looking at input: the three-byte, header and length tests, and a yes or no on the checksum; no state, no output.
 -- From document 01, "Calls" and "Given back".
-use Rattle.std.specs.Prelude.{ℕ, Bool, List, eqb, ltb, length, get_or, take}
-use Rattle.laws.specs.Choice.{if◌then◌else◌}
+use Rattle.std.specs.Prelude.{ℕ, Bool, List, eqb, ltb, length, get_or, take, if◌then◌else◌}
 use Rattle.laws.specs.Answers.{Told, gives, refuses}
 use Rattle.crc8.specs.Checksum.{checksum}
 use Rattle.codec.specs.Errors.{error_number}

@@ -1,7 +1,6 @@
 -- What a decode call does with what stands in front of its input, by the tests in document 01's order: 3 bytes, header, length, output, checksum.
 -- From document 01, "Given back".
-use Rattle.std.specs.Prelude.{ℕ, Bool, ◌&&◌, not, List, eqb, ltb, length}
-use Rattle.laws.specs.Choice.{if◌then◌else◌}
+use Rattle.std.specs.Prelude.{ℕ, Bool, ◌&&◌, not, List, eqb, ltb, length, if◌then◌else◌}
 use Rattle.codec.specs.Errors.{error_number}
 use Rattle.sbc_parameters.specs.Sizes.{frame_samples}
 use Rattle.sbc_parameters.specs.declared.SbcParameters.{SbcParameters}

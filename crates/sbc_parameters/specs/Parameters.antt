@@ -1,6 +1,5 @@
 -- The parameters of a stream, and which sets of them are accepted. From document 01, "Parameters" and "The words of demand 3".
-use Rattle.std.specs.Prelude.{ℕ, ◌*◌, Bool, List, [], ◌∷◌, eqb, leb, ltb}
-use Rattle.laws.specs.Choice.{if◌then◌else◌}
+use Rattle.std.specs.Prelude.{ℕ, ◌*◌, Bool, List, [], ◌∷◌, eqb, leb, ltb, if◌then◌else◌}
 use Rattle.laws.specs.Answers.{Told, gives, refuses}
 use Rattle.laws.specs.Lists.{all_of, listed}
 use Rattle.codec.specs.Errors.{error_number}

@@ -1,6 +1,5 @@
 -- The sizes of a frame, for all values of the fields. From document 01, "Parameters".
-use Rattle.std.specs.Prelude.{ℕ, ◌+◌, ◌*◌, ◌/◌, ◌≤◌, ◌≡◌, true}
-use Rattle.laws.specs.Choice.{if◌then◌else◌}
+use Rattle.std.specs.Prelude.{ℕ, ◌+◌, ◌*◌, ◌/◌, ◌≤◌, ◌≡◌, true, if◌then◌else◌}
 use Rattle.sbc_modes.specs.Modes.{separate, is_joint}
 use Rattle.sbc_modes.specs.declared.SbcChannelMode.TheVariants.{DualChannel}
 use Rattle.sbc_modes.specs.declared.SbcAllocation.TheVariants.{Loudness}

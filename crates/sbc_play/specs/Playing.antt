@@ -1,8 +1,7 @@
 -- How the code of the decoder plays a frame, for the contracts of its inner functions alone: the subband samples of a channel stand in an array
 -- of 128, eight places a block, and a channel's PCM goes into its places of the output block by block. No call of a user's cites this.
 -- From document 01, "Filterbanks" and "Parameters".
-use Rattle.std.specs.Prelude.{ℕ, zero, suc, ◌+◌, ◌*◌, List, [], ◌∷◌, ltb, get_or, set, ℤ}
-use Rattle.laws.specs.Choice.{if◌then◌else◌}
+use Rattle.std.specs.Prelude.{ℕ, zero, suc, ◌+◌, ◌*◌, List, [], ◌∷◌, ltb, get_or, set, ℤ, if◌then◌else◌}
 use Rattle.laws.specs.Lists.{build}
 use Rattle.sbc_parameters.specs.Parameters.{channels}
 use Rattle.sbc_parameters.specs.declared.SbcParameters.{SbcParameters}

@@ -8,7 +8,7 @@ use lib.Dec.{ltb}
 use lib.ListN.{length, get_or}
 use lib.IntN.{ℤ, pos}
 use borrow.Author.Tests.{lt-ltb, le-ltb}
-use Rattle.laws.specs.Choice.{if◌then◌else◌}
+use Rattle.std.specs.Prelude.{if◌then◌else◌}
 use Rattle.laws.specs.Lists.{build, total}
 use Rattle.laws.proofs.Lists.{get_or-build, get_or-build-out}
 use Rattle.sbc_parameters.specs.declared.SbcParameters.{SbcParameters}

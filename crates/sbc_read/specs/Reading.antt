@@ -1,8 +1,7 @@
 -- How the code of the decoder reads a frame, for the contracts of its inner functions alone: flags and scale factors in rows of eight, and the
 -- subband samples of a channel in an array of 128, eight places a block. No call of a user's cites this.
 -- From document 01, "Parameters", "Quantizing" and "Joint stereo".
-use Rattle.std.specs.Prelude.{ℕ, ◌+◌, ◌*◌, ◌-◌, List, [], ltb, ℤ}
-use Rattle.laws.specs.Choice.{if◌then◌else◌}
+use Rattle.std.specs.Prelude.{ℕ, ◌+◌, ◌*◌, ◌-◌, List, [], ltb, ℤ, if◌then◌else◌}
 use Rattle.laws.specs.Lists.{build, total}
 use Rattle.bits.specs.Fields.{number_at}
 use Rattle.sbc_parameters.specs.Parameters.{channels}

@@ -1,7 +1,6 @@
 -- Where decoding resumes for a position, under the parameters of the last accepted frame. Positions and the skip count samples of one channel.
 -- From document 01, "Calls" and "Given back".
-use Rattle.std.specs.Prelude.{ℕ, ◌-◌, ◌*◌, ◌/◌, ◌^◌, ◌&&◌, eqb, ltb}
-use Rattle.laws.specs.Choice.{if◌then◌else◌}
+use Rattle.std.specs.Prelude.{ℕ, ◌-◌, ◌*◌, ◌/◌, ◌^◌, ◌&&◌, eqb, ltb, if◌then◌else◌}
 use Rattle.laws.specs.Answers.{Told, gives, refuses}
 use Rattle.codec.specs.Errors.{error_number}
 use Rattle.sbc_parameters.specs.Parameters.{accepted}

@@ -3,7 +3,7 @@
 use mathlib.Core.Path.{◌≡◌, refl}
 use mathlib.Core.Bool.{Bool, true, false}
 use mir.Val.{bool_byte}
-use Rattle.laws.specs.Choice.{if◌then◌else◌}
+use Rattle.std.specs.Prelude.{if◌then◌else◌}
 use Rattle.abi_decoder.specs.Decoder.{state_of}
 use borrow.Author.Rules.{rules}
 use Rattle.abi_decoder.proofs.state_of.Statement.{statement}

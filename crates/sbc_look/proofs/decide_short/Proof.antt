@@ -3,7 +3,7 @@
 use mathlib.Core.Path.{◌≡◌, refl}
 use mathlib.Core.Bool.{Bool, true, false, ◌&&◌}
 use borrow.Author.Tests.{eq-eqb, ne_eqb}
-use Rattle.laws.specs.Choice.{if◌then◌else◌}
+use Rattle.std.specs.Prelude.{if◌then◌else◌}
 use Rattle.sbc_look.specs.Next.{no_frame, refusal, next_short, told_next}
 use Rattle.sbc_look.proofs.decide_short.Statement.{statement}
 use Rattle.sbc_look.proofs.decide_short.Tie as tie

@@ -11,7 +11,7 @@ use lib.Dec.{eqb}
 use lib.ListN.{length}
 use lib.IntN.{ℤ, ◌+ℤ◌, ◌-ℤ◌}
 use borrow.Author.Tests.{eq-eqb, ne_eqb}
-use Rattle.laws.specs.Choice.{if◌then◌else◌}
+use Rattle.std.specs.Prelude.{if◌then◌else◌}
 use Rattle.sbc_frame.specs.Arrays.{with_subband, sample_in, entry}
 use Rattle.sbc_frame.proofs.Columns.{length-replaced, Mixed, mixed-none, mixed-here, mixed-all, mixed-store, mixed-skip}
 use Rattle.sbc_frame.proofs.Flagged.{Behind, behind-store, behind-skip, flagged-is}
