@@ -16,6 +16,7 @@ use Rattle.laws.proofs.Table.{at}
 use Rattle.sbc_tables.specs.Tables.{prototype, prototype4, prototype8}
 use Rattle.sbc_filterbank.specs.Subbands.{Bands, prototype_at}
 use Rattle.sbc_filterbank.specs.Synthesis.{vector_at, vector_place, sample_term}
+use Rattle.sbc_filterbank.specs.Ring.{ring}
 use Rattle.sbc_synthesize.specs.Summing.{tap_sum, output_bound, OutputSums}
 use Rattle.sbc_filterbank.proofs.Bands.{for-bands, bands-le}
 use Rattle.sbc_filterbank.proofs.Bounds.{Summed}
@@ -45,3 +46,7 @@ module _ {S : ℕ} (vs : List (List ℤ)) (sums : List ℤ) (b : Bands S) where
       subst (Within output_bound) (sym e.0)
       (within-up_to 8 S output_bound (λ j. sum_z 10 (sample_term S vs j))
       (λ j h. le_trans (e.1 j h) (mul-le-mul_right (2 ^ 31) (tap-sum-bound j b h))))
+
+-- ---- the sum of output j over the vectors of the ring up to b
+abbrev pub summed : ℕ → List ℤ → ℕ → ℕ → ℕ → ℤ
+summed S values newest b j = sum_z (b + 1) (sample_term S (ring S values newest) j)

@@ -4,6 +4,7 @@
 // Each loop is written once, over the number of subbands; `synthesize8` and `synthesize4` hand it down as a literal, so that the compiler
 // makes a loop of known length for each.
 #![tactic(auto)]
+
 ghost use Rattle.std.specs.Prelude.{◌≡◌, ◌+◌, ◌*◌, ◌%◌, ◌^◌, ◌≤◌, ◌<◌, get_or, pos, nat_abs};
 ghost use Rattle.laws.specs.Lists.{build};
 ghost use Rattle.laws.specs.Integers.{Within};

@@ -1,0 +1,19 @@
+-- `sbc_synthesize::add_vector` meets its contract. The loop's invariant: the places before j hold the sums with one term more,
+-- within their bound, and the others 0.
+-- Assumes nothing.
+use Prim.Native.Nat.{ℕ, ◌+◌, ◌*◌, ◌-◌, ◌^◌, ◌≤◌, ◌<◌}
+use mathlib.Core.Path.{◌≡◌}
+use lib.IntN.{nat_abs}
+use Rattle.laws.specs.Lists.{build}
+use Rattle.laws.specs.Sums.{up_to}
+use Rattle.sbc_synthesize.specs.Summing.{tap_sum}
+use Rattle.sbc_synthesize.proofs.Samples.{summed}
+use Rattle.sbc_synthesize.proofs.add_vector.Given as goal
+
+abbrev pub invariant-loop-j : goal.invariant-loop-j
+invariant-loop-j l =
+    (l.j ≤ l.subbands) × (l.more ≡ build 8 (up_to l.j (summed l.subbands l.values l.newest l.b)))
+    × ((i : ℕ) → i < l.j → nat_abs (summed l.subbands l.values l.newest l.b i) ≤ tap_sum l.subbands (l.b + 1) i * 2 ^ 31)
+
+abbrev pub decreases-loop-j : goal.decreases-loop-j
+decreases-loop-j l = l.subbands - l.j
