@@ -12,7 +12,7 @@ use lib.ListN.{length, get_or}
 use lib.IntN.{ℤ, pos, negsuc, nat_abs, ◌+ℤ◌, ◌-ℤ◌, ◌*ℤ◌, zero-*ℤ, +ℤ_idr}
 use mir.Facts.{and_yes}
 use borrow.Author.Tests.{eq-eqb, ne_eqb, le-leb, lt-leb, lt-ltb, le-ltb, ltb-true, ltb-false, leb-false}
-use Rattle.laws.specs.Choice.{if◌then◌else◌}
+use Rattle.std.specs.Prelude.{if◌then◌else◌}
 use Rattle.laws.specs.Lists.{collect, build}
 use Rattle.laws.specs.Integers.{Within, floor_div}
 use Rattle.laws.specs.Sums.{sum_z, up_to, delta}

@@ -15,7 +15,7 @@ use mir.Syntax.{w16}
 use mir.Val.{SFits, to_z, of_z}
 use mir.Facts.{to_z-of_z}
 use borrow.Author.Tests.{lt-ltb, le-ltb, ltb-true, ltb-false}
-use Rattle.laws.specs.Choice.{if◌then◌else◌}
+use Rattle.std.specs.Prelude.{if◌then◌else◌}
 use Rattle.laws.specs.Lists.{build}
 use Rattle.laws.proofs.Cases.{by-test}
 use Rattle.laws.proofs.Arrays.{build-set}

@@ -1,8 +1,7 @@
 -- How the code of the analysis takes the sums in parts, for the contracts of its inner functions alone: entries whose cosines are equal or
 -- opposite are added or subtracted first, and the history moves in two steps. No call of a user's cites this.
 -- From document 01, "Filterbanks": "The Rust's folding and ring must equal these sums."
-use Rattle.std.specs.Prelude.{ℕ, ◌+◌, ◌*◌, ◌-◌, ◌/◌, ◌^◌, List, ◌++◌, eqb, leb, ltb, length, get_or, ℤ, pos, negsuc, ◌+ℤ◌, ◌-ℤ◌, ◌*ℤ◌}
-use Rattle.laws.specs.Choice.{if◌then◌else◌}
+use Rattle.std.specs.Prelude.{ℕ, ◌+◌, ◌*◌, ◌-◌, ◌/◌, ◌^◌, List, ◌++◌, eqb, leb, ltb, length, get_or, ℤ, pos, negsuc, ◌+ℤ◌, ◌-ℤ◌, ◌*ℤ◌, if◌then◌else◌}
 use Rattle.laws.specs.Lists.{collect, build}
 use Rattle.laws.specs.Integers.{floor_div}
 use Rattle.laws.specs.Sums.{sum_z}

@@ -1,7 +1,6 @@
 -- The analysis filterbank (document 01, "Filterbanks") for S subbands: a block of S samples enters the history X, and the history gives S
 -- outputs. X is a list of 80 samples, newest first.
-use Rattle.std.specs.Prelude.{ℕ, ◌+◌, ◌*◌, ◌-◌, ◌/◌, ◌^◌, List, ltb, length, get_or, ℤ, pos, ◌-ℤ◌, ◌*ℤ◌}
-use Rattle.laws.specs.Choice.{if◌then◌else◌}
+use Rattle.std.specs.Prelude.{ℕ, ◌+◌, ◌*◌, ◌-◌, ◌/◌, ◌^◌, List, ltb, length, get_or, ℤ, pos, ◌-ℤ◌, ◌*ℤ◌, if◌then◌else◌}
 use Rattle.laws.specs.Lists.{build}
 use Rattle.laws.specs.Integers.{floor_div}
 use Rattle.laws.specs.Sums.{sum_z}

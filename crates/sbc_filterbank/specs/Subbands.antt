@@ -1,6 +1,5 @@
 -- What both filterbanks share (document 01, "Filterbanks"): S, the number of subbands; P and C by index; a block's S numbers in an array.
-use Rattle.std.specs.Prelude.{ℕ, ◌-◌, ◌%◌, ◌≡◌, ◌⊎◌, List, ◌++◌, eqb, length, get_or, replicate, ℤ, pos, negsuc}
-use Rattle.laws.specs.Choice.{if◌then◌else◌}
+use Rattle.std.specs.Prelude.{ℕ, ◌-◌, ◌%◌, ◌≡◌, ◌⊎◌, List, ◌++◌, eqb, length, get_or, replicate, ℤ, pos, negsuc, if◌then◌else◌}
 use Rattle.sbc_tables.specs.Tables.{prototype, cosines}
 
 -- S is 4 or 8

@@ -1,9 +1,8 @@
 -- How the code of the synthesis takes the sums of a vector in parts, for the contracts of its inner functions alone: samples whose cosines are equal
 -- or opposite are added or subtracted first. No call of a user's cites this.
 -- From document 01, "Filterbanks": "The Rust's folding and ring must equal these sums."
-use Rattle.std.specs.Prelude.{ℕ, ◌+◌, ◌*◌, ◌-◌, ◌/◌, ◌%◌, ◌^◌, List, eqb, leb, ltb, get_or, ℤ, pos, negsuc, ◌+ℤ◌, ◌*ℤ◌}
+use Rattle.std.specs.Prelude.{ℕ, ◌+◌, ◌*◌, ◌-◌, ◌/◌, ◌%◌, ◌^◌, List, eqb, leb, ltb, get_or, ℤ, pos, negsuc, ◌+ℤ◌, ◌*ℤ◌, if◌then◌else◌}
 use Rattle.std.specs.Int.{w32}
-use Rattle.laws.specs.Choice.{if◌then◌else◌}
 use Rattle.laws.specs.Lists.{collect, build}
 use Rattle.laws.specs.Integers.{floor_div, clamp_z}
 use Rattle.laws.specs.Sums.{sum_z}

@@ -1,6 +1,5 @@
 -- The constant tables of the codec, copied from the Rust, side by side. From document 01, "Need and share" and "Filterbanks".
-use Rattle.std.specs.Prelude.{ℕ, List, [], ◌∷◌, eqb, ℤ, pos, neg_ℤ}
-use Rattle.laws.specs.Choice.{if◌then◌else◌}
+use Rattle.std.specs.Prelude.{ℕ, List, [], ◌∷◌, eqb, ℤ, pos, neg_ℤ, if◌then◌else◌}
 
 abbrev pub minus : ℕ → ℤ
 minus n = neg_ℤ (pos n)
