@@ -1,5 +1,6 @@
 // A reader and a writer of bits that hold their slice and a position in it.
 #![tactic(auto)]
+
 pub mod reader;
 pub mod writer;
 

@@ -1,5 +1,4 @@
-// A reader that holds its bytes and a position, thin over `read_at`. A function over a struct that holds a reference is walked by hand, so its
-// body has one call and no branch: what is to be decided is decided by the function on a slice and a number.
+// A reader that holds its bytes and a position, thin over `read_at`: what is to be decided is decided by the function on a slice and a number.
 ghost use Rattle.std.specs.Prelude.{◌≡◌};
 ghost use Rattle.bits.specs.Fields.{told_bits, told_read, read_at};
 ghost use Rattle.bitstream.specs.Held.{reader_over, read_by};
@@ -34,7 +33,7 @@ impl<'a> BitReader<'a> {
     }
 }
 
-// `read_at` through a reader in a local. Its promise speaks of no reader, so covered code can call it, in a loop too, and is not walked.
+// `read_at` through a reader in a local. Its promise speaks of no reader.
 pub fn read_bits(bytes: &[u8], position: usize, count: u32) -> Read
     ensures { told_read result ≡ read_at bytes.now position count }
 {

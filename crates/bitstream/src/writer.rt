@@ -34,7 +34,7 @@ impl<'a> BitWriter<'a> {
     }
 }
 
-// `write_at` through a writer in a local, for covered code, as `read_bits` is.
+// `write_at` through a writer in a local, as `read_bits` is.
 pub fn write_bits(bytes: &mut [u8], position: usize, value: u32, count: u32) -> Written
     ensures { told_written result bytes.new ≡ write_at bytes.old position value count }
 {
