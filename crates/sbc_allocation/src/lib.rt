@@ -1,5 +1,6 @@
 // The bit allocation of SBC: the needs of each channel's subbands, and the bitpool shared among those of a group.
 #![tactic(auto)]
+
 ghost use Rattle.std.specs.Prelude.{◌≡◌, not, [], ◌∷◌, map, ℕ, ◌+◌, ◌*◌, ◌/◌, ◌%◌, ◌≤◌, ◌<◌, min, get_or, take};
 ghost use Rattle.sbc_modes.specs.Modes.{separate};
 ghost use Rattle.sbc_parameters.specs.Header.{frequency_index};
