@@ -11,7 +11,7 @@ use lib.IntN.{ℤ, pos, neg_ℤ, nat_abs, sub_ℕ, ◌+ℤ◌, ◌-ℤ◌, ◌*�
 use lib.Signed.{quot_z}
 use lib.Pow.{pow_pos, pow_mono}
 use borrow.Author.Tests.{ltb-true, ltb-false, ne_eqb}
-use Rattle.laws.specs.Choice.{if◌then◌else◌}
+use Rattle.std.specs.Prelude.{if◌then◌else◌}
 use Rattle.laws.proofs.Abs.{nat_abs-neg, nat_abs-*-le}
 use Rattle.laws.proofs.Cases.{by-test}
 use Rattle.laws.proofs.Difference.{pos-sub, sub-add, sub-of-le, sub-of-ge, abs-sub-le, times-neg, quot-neg}

@@ -1,9 +1,8 @@
 // Scale factors, the quantizer and the dequantizer of SBC's subband samples (document 01, "Quantizing").
 #![tactic(auto)]
 
-ghost use Rattle.std.specs.Prelude.{◌≡◌, ℕ, ◌+◌, ◌-◌, ◌/◌, ◌^◌, ◌≤◌, ◌<◌, pos, negsuc, nat_abs, ◌+ℤ◌};
+ghost use Rattle.std.specs.Prelude.{◌≡◌, ℕ, ◌+◌, ◌-◌, ◌/◌, ◌^◌, ◌≤◌, ◌<◌, pos, negsuc, nat_abs, ◌+ℤ◌, if◌then◌else◌};
 ghost use Rattle.std.specs.Int.Signed.{lt_z, quot_z};
-ghost use Rattle.laws.specs.Choice.{if◌then◌else◌};
 ghost use Rattle.sbc_quantizer.specs.Quantizing.{scale_factor, levels, quantize, reconstruct};
 ghost use Rattle.sbc_quantizer.specs.Dequantizing.{held_between, dequantizer, Dequantizes};
 

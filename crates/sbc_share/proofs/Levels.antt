@@ -8,7 +8,7 @@ use lib.Dec.{ltb, eqb}
 use lib.ListN.{length, get_or}
 use lib.IntN.{pos, pred_ℤ, neg_ℤ, ◌-ℤ◌, pred_ℤ-+ℤ}
 use lib.Signed.{le_z}
-use Rattle.laws.specs.Choice.{if◌then◌else◌}
+use Rattle.std.specs.Prelude.{if◌then◌else◌}
 use Rattle.sbc_share.specs.Share.{above, heights, level_bits, descend, greatest_need, least_need, level_of}
 use Rattle.sbc_share.specs.Raised.{lowered, greatest_raised, least_raised, excesses}
 use Rattle.laws.proofs.Cases.{by-test}

@@ -13,7 +13,7 @@ use lib.ListN.{length, get_or}
 use lib.IntN.{ℤ, pos, pred_ℤ, ◌-ℤ◌}
 use lib.Signed.{le_z, ◌<ℤ◌}
 use borrow.Author.Tests.{ltb-true, ltb-false, leb-true, leb-false, eqb-true, eqb-false}
-use Rattle.laws.specs.Choice.{if◌then◌else◌}
+use Rattle.std.specs.Prelude.{if◌then◌else◌}
 use Rattle.sbc_share.specs.Share.{sum, above, heights, level_part, level_bits, descend, greatest_need, least_need, level_of, base_bits, round_gain, round_bits, last_bit, share_at, share}
 use Rattle.laws.proofs.Cases.{by-test, by_both}
 use Rattle.laws.proofs.Difference.{up, down, le_yes, le-no, lt-is, pred-is, sub_is}

@@ -1,9 +1,8 @@
 -- How a group's bitpool is shared among its needs. From document 01, "Need and share", from "Level search" to "fewer than 16".
 -- A group is the list of its needs in the order in which they are served.
-use Rattle.std.specs.Prelude.{◌&&◌, List, [], ◌∷◌, map, ℕ, zero, suc, ◌+◌, ◌-◌, min, leb, ltb, eqb, ℤ, pos, negsuc, ◌-ℤ◌}
+use Rattle.std.specs.Prelude.{◌&&◌, List, [], ◌∷◌, map, ℕ, zero, suc, ◌+◌, ◌-◌, min, leb, ltb, eqb, ℤ, pos, negsuc, ◌-ℤ◌, if◌then◌else◌}
 use Rattle.std.proofs.Math.IntN.{pred_ℤ}
 use Rattle.std.specs.Int.Signed.{le_z}
-use Rattle.laws.specs.Choice.{if◌then◌else◌}
 
 -- the entries of a list, added
 unfoldable pub sum : List ℕ → ℕ
