@@ -48,7 +48,8 @@ module _ (byte offset value n low : ℕ) (e : offset + n + low ≡ 8) (small : b
 -- ---- one byte of many
 -- the bits of bytes with n bits of one byte changed
 pub bits-set : (bytes : List ℕ) (i offset n : ℕ) (xs : List Bool) → i < length bytes → offset + n ≤ 8 → length xs ≡ n
-    → bits_of_bytes (set bytes i (number_of (put (bits_of 8 (get_or bytes i 0)) offset n xs))) ≡ put (bits_of_bytes bytes) (8 * i + offset) n xs
+    → bits_of_bytes (set bytes i (number_of (put (bits_of 8 (get_or bytes i 0)) offset n xs)))
+    ≡ put (bits_of_bytes bytes) (8 * i + offset) n xs
 unfolding bits_of_bytes
 bits-set bytes i offset n xs h room long =
     let x : ℕ = get_or bytes i 0 in

@@ -16,20 +16,23 @@ use Rattle.laws.proofs.Parts.{put, length-put, part-put, before-put, behind-put}
 -- a write keeps the number of bytes
 pub length-overwritten : (bytes : List ℕ) (position value count : ℕ) → length (overwritten bytes position value count) ≡ length bytes
 unfolding overwritten
-length-overwritten bytes position value count = length-bytes_of (length bytes) (put (bits_of_bytes bytes) position count (bits_of count value))
+length-overwritten bytes position value count =
+    length-bytes_of (length bytes) (put (bits_of_bytes bytes) position count (bits_of count value))
 
 pub length-written : (bytes : List ℕ) (position value count : ℕ) → length (write_at bytes position value count).bytes ≡ length bytes
 unfolding write_at
 length-written bytes position value count = go (eqb count 0) refl (inside bytes position count) refl
   where
-    go : (t : Bool) → eqb count 0 ≡ t → (u : Bool) → inside bytes position count ≡ u → length (write_at bytes position value count).bytes ≡ length bytes
+    go : (t : Bool) → eqb count 0 ≡ t → (u : Bool) → inside bytes position count ≡ u
+        → length (write_at bytes position value count).bytes ≡ length bytes
     go true e u f = rw e
     go false e true f = rw (e, f) (length-overwritten bytes position value count)
     go false e false f = rw (e, f)
 
 module _ (bytes : List ℕ) (position value count : ℕ) (room : position + count ≤ 8 * length bytes) where
   -- the bits after a write
-  pub bits-overwritten : bits_of_bytes (overwritten bytes position value count) ≡ put (bits_of_bytes bytes) position count (bits_of count value)
+  pub bits-overwritten : bits_of_bytes (overwritten bytes position value count)
+      ≡ put (bits_of_bytes bytes) position count (bits_of count value)
   unfolding overwritten
   bits-overwritten =
       let r : position + count ≤ length (bits_of_bytes bytes) = omega (arith, length-bits_of_bytes bytes) in

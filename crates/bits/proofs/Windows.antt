@@ -38,7 +38,8 @@ window-small bytes from n h =
 
 -- a window of one byte more
 pub window-next : (bytes : List ℕ) (from n : ℕ) → from + n < length bytes → get_or bytes (from + n) 0 < 256
-    → number_of (bits_of_bytes (take (n + 1) (drop from bytes))) ≡ number_of (bits_of_bytes (take n (drop from bytes))) * 256 + get_or bytes (from + n) 0
+    → number_of (bits_of_bytes (take (n + 1) (drop from bytes)))
+    ≡ number_of (bits_of_bytes (take n (drop from bytes))) * 256 + get_or bytes (from + n) 0
 window-next bytes from n h small =
     let rest : List ℕ = drop from bytes in
     let k : n < length rest = omega (arith, length-drop from bytes) in
@@ -78,7 +79,8 @@ read_number bytes position count v (r, e) h =
     rw (e, take_at (bits_of count v) r count (length-bits_of count v)) (number-of-bits count v h)
 
 -- and so is a bit
-pub read-flag : (bytes : List ℕ) (position : ℕ) (b : Bool) → At (bits_of_bytes bytes) position (b ∷ []) → odd (number_at bytes position 1) ≡ b
+pub read-flag : (bytes : List ℕ) (position : ℕ) (b : Bool) → At (bits_of_bytes bytes) position (b ∷ [])
+    → odd (number_at bytes position 1) ≡ b
 unfolding number_at number_of
 read-flag bytes position b (r, e) =
     let o : digit b * 1 + 0 ≡ digit b = omega arith in

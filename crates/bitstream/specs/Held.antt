@@ -1,5 +1,6 @@
 -- A reader and a writer that hold their bytes. From document 01, "Bits": "The reader over the frame holds its bytes and a position."
--- What is read and written stands in `Fields` of the crate `bits`. `at_last x l` is the borrow x, of the same bytes in memory, with the bytes l in them.
+-- What is read and written stands in `Fields` of the crate `bits`. `at_last x l` is the borrow x, of the same bytes in memory,
+-- with the bytes l in them.
 use Rattle.std.specs.Prelude.{ℕ, List}
 use denote.Ref.{Bor, MutBor, at_last}
 use Rattle.laws.specs.Answers.{Told}

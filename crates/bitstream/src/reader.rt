@@ -1,4 +1,5 @@
-// A reader that holds its bytes and a position, thin over `read_at`: what is to be decided is decided by the function on a slice and a number.
+// A reader that holds its bytes and a position, thin over `read_at`: what is to be decided is decided by the function on a slice and a
+// number.
 ghost use Rattle.std.specs.Prelude.{◌≡◌};
 ghost use Rattle.bits.specs.Fields.{told_bits, told_read, read_at};
 ghost use Rattle.bitstream.specs.Held.{reader_over, read_by};

@@ -78,7 +78,8 @@ bits_none bytes i h = ap bits_of_bytes (drop_of_length-le bytes h)
 
 -- the bytes that are left, from the i-th on
 pub bytes_next : (crc : ℕ) (bytes : List ℕ) (i : ℕ) → i < length bytes
-    → crc_bits crc (bits_of_bytes (drop i bytes)) ≡ crc_bits (crc_bits crc (bits_of 8 (get_or bytes i 0))) (bits_of_bytes (drop (i + 1) bytes))
+    → crc_bits crc (bits_of_bytes (drop i bytes))
+    ≡ crc_bits (crc_bits crc (bits_of 8 (get_or bytes i 0))) (bits_of_bytes (drop (i + 1) bytes))
 bytes_next crc bytes i h =
     ap (crc_bits crc) (bits-drop bytes i h) ∙ crc-append crc (bits_of 8 (get_or bytes i 0)) (bits_of_bytes (drop (i + 1) bytes))
 
@@ -112,7 +113,8 @@ pub rest_some : (frame : List ℕ) (i r : ℕ) → i < length frame → r < 8
     → take r (bits_of_bytes (drop i frame)) ≡ take r (bits_of 8 (get_or frame i 0))
 rest_some frame i r h g =
     ap (take r) (bits-drop frame i h)
-    ∙ take-append-le r (bits_of 8 (get_or frame i 0)) (bits_of_bytes (drop (i + 1) frame)) (omega (arith, length-bits_of 8 (get_or frame i 0)))
+    ∙ take-append-le r (bits_of 8 (get_or frame i 0)) (bits_of_bytes (drop (i + 1) frame))
+    (omega (arith, length-bits_of 8 (get_or frame i 0)))
 
 -- and change nothing where it has not
 pub rest-none : (crc : ℕ) (frame : List ℕ) (i r : ℕ) → length frame ≤ i → crc_bits crc (take r (bits_of_bytes (drop i frame))) ≡ crc

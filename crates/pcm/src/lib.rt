@@ -57,7 +57,8 @@ pub fn read(bytes: &[u8], samples: &mut [i16])
 // Writes each sample as its two bytes.
 pub fn write(samples: &[i16], bytes: &mut [u8])
     requires { length bytes.old ≡ 2 * length samples.now }
-    ensures { bytes.new ≡ collect (length samples.now) (λ i. low_byte (get_or samples.now i (pos 0)) ∷ high_byte (get_or samples.now i (pos 0)) ∷ []) }
+    ensures { bytes.new
+        ≡ collect (length samples.now) (λ i. low_byte (get_or samples.now i (pos 0)) ∷ high_byte (get_or samples.now i (pos 0)) ∷ []) }
 {
     for i in 0..samples.len() {
         let n = unsigned(samples[i]);
