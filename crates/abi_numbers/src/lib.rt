@@ -1,6 +1,7 @@
 // The numbers that cross to C, and what they stand for: parameters, and what a call gives back. No enum may cross, so the mode, the allocation and
 // a refusal are numbers here; numbers that stand for nothing are not accepted.
 #![tactic(auto)]
+
 ghost use Rattle.std.specs.Prelude.{◌≡◌};
 ghost use Rattle.sbc_parameters.specs.Header.{parse};
 ghost use Rattle.sbc_parameters.specs.Sizes.{frame_length, frame_samples};

@@ -1,6 +1,7 @@
 // A look at the input of a decoder: whether a whole frame stands in front, and whether its byte 3 holds its checksum; and what a decode call does next.
 // No state, no output.
 #![tactic(auto)]
+
 ghost use Rattle.std.specs.Prelude.{◌≡◌, true, eqb, length};
 ghost use Rattle.laws.specs.Answers.{gives};
 ghost use Rattle.sbc_parameters.specs.Parameters.{accepted};

@@ -1,6 +1,7 @@
 // Where decoding resumes for a position: a byte offset of the stream, and the samples that the decoder then drops. No state: what it depends on is
 // the position and the parameters of the last accepted frame.
 #![tactic(auto)]
+
 ghost use Rattle.std.specs.Prelude.{◌≡◌, true};
 ghost use Rattle.sbc_parameters.specs.Parameters.{accepted};
 ghost use Rattle.sbc_seek.specs.Seek.{seek_frame, request_in, first_request, seek_request, told_seek};
