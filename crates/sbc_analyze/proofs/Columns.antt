@@ -1,5 +1,5 @@
--- The folded analysis equals the plain sums: each output's coefficients of Y are the definition's cosines, by one test that antt computes over
--- the whole matrix for 4 and for 8 subbands. And the bounds that keep the folded sums in their types.
+-- The folded analysis equals the plain sums: each output's coefficients of Y are the definition's cosines, by one test that antt computes
+-- over the whole matrix for 4 and for 8 subbands. And the bounds that keep the folded sums in their types.
 -- Assumes nothing.
 use Prim.Native.Nat.{ℕ, ◌+◌, ◌*◌, ◌-◌, ◌/◌, ◌^◌, ◌≤◌, ◌<◌}
 use mathlib.Core.Path.{◌≡◌, refl, sym, ap, ap₂, ◌∙◌, subst}
@@ -62,7 +62,8 @@ right S i k = weight-sum-right S i k && weight-difference-right S i k
 
 module _ {S : ℕ} (i k : ℕ) (b : Bands S) (h : i < S / 2) (p : k < 2 * S) where
   tested : T (right S i k)
-  unfolding right weight-sum-right weight-difference-right weight coefficient sum_z delta analysis_columns collect build analysis_cosine cosine_at cosines
+  unfolding right weight-sum-right weight-difference-right weight coefficient sum_z delta
+      analysis_columns collect build analysis_cosine cosine_at cosines
   tested =
       for-bands (λ s. i < s / 2 → k < 2 * s → T (right s i k)) b
       (λ l m. at 8 (right 4 i) (at 2 (λ j. all_below 8 (right 4 j)) tt i l) k m)
@@ -90,7 +91,8 @@ module _ {S : ℕ} (Y : ℕ → ℤ) (F : List ℤ) (b : Bands S) (e : (c : ℕ)
   column-sum-is : (odd i : ℕ) → odd < 2 → i < S / 2 → column_sum S F odd i ≡ sum_z (2 * S) (λ k. weight S odd i k *ℤ Y k)
   unfolding column_sum fold_column weight
   column-sum-is odd i o h =
-      sum_z-ext (S / 2) _ _ (λ n p. ap (λ z. get_or (analysis_columns S) (i * S + odd * (S / 2) + n) (pos 0) *ℤ z) (e (2 * n + odd) (omega arith)))
+      sum_z-ext (S / 2) _ _
+      (λ n p. ap (λ z. get_or (analysis_columns S) (i * S + odd * (S / 2) + n) (pos 0) *ℤ z) (e (2 * n + odd) (omega arith)))
       ∙ folded (S / 2) (2 * S) (λ n. get_or (analysis_columns S) (i * S + odd * (S / 2) + n) (pos 0)) (λ n. fold_sign S (2 * n + odd))
       (λ n. S / 2 + (2 * n + odd)) (λ n. fold_mirror S (2 * n + odd)) Y (λ n p. omega arith) (λ n p. mirror-below (2 * n + odd) b)
 
@@ -155,9 +157,15 @@ column-within : (S : ℕ) (Y : ℕ → ℤ) (c : ℕ) → ((k : ℕ) → nat_abs
 unfolding fold_column
 column-within S Y c w =
     le_trans (nat_abs-+ (Y (S / 2 + c)) (fold_sign S c *ℤ Y (fold_mirror S c)))
-    (omega (arith, w (S / 2 + c), nat_abs-*-le (fold_sign S c) (Y (fold_mirror S c)) (sign_small (eqb c 0) (leb c (S / 2))) (w (fold_mirror S c))))
+    (omega (
+      arith,
+      w (S / 2 + c),
+      nat_abs-*-le (fold_sign S c) (Y (fold_mirror S c)) (sign_small (eqb c 0) (leb c (S / 2)))
+          (w (fold_mirror S c)),
+    ))
 
-pub fold-within : (S : ℕ) (Y F : List ℤ) → Within 400000000 Y → F ≡ build 8 (up_to S (fold_column S (λ k. get_or Y k (pos 0)))) → Within 800000000 F
+pub fold-within : (S : ℕ) (Y F : List ℤ) → Within 400000000 Y → F ≡ build 8 (up_to S (fold_column S (λ k. get_or Y k (pos 0))))
+    → Within 800000000 F
 fold-within S Y F w e =
     subst (Within 800000000) (sym e)
     (within-up_to 8 S 800000000 (fold_column S (λ k. get_or Y k (pos 0))) (λ c p. column-within S (λ k. get_or Y k (pos 0)) c w))
@@ -187,7 +195,8 @@ outputs-within S even odd out w v e =
     (λ i p. nat_abs-floor (output_sum S (λ k. get_or even k (pos 0)) (λ k. get_or odd k (pos 0)) i) (2 ^ 33) 800000000 (lit< tt)
     (by-test (λ z. nat_abs z ≤ 800000000 * 2 ^ 33) (ltb i (S / 2)) _ _
     (λ _. le_trans (nat_abs-+ (get_or even i (pos 0)) (get_or odd i (pos 0))) (omega (arith, w i, v i)))
-    (λ _. le_trans (nat_abs-- (get_or even (S - 1 - i) (pos 0)) (get_or odd (S - 1 - i) (pos 0))) (omega (arith, w (S - 1 - i), v (S - 1 - i)))))))
+    (λ _. le_trans (nat_abs-- (get_or even (S - 1 - i) (pos 0)) (get_or odd (S - 1 - i) (pos 0)))
+    (omega (arith, w (S - 1 - i), v (S - 1 - i)))))))
 
 -- ---- all outputs, from what the steps give
 output-ext : {S : ℕ} (e o e' o' : ℕ → ℤ) (i : ℕ) → Bands S → i < S → ((k : ℕ) → k < S / 2 → e k ≡ e' k) → ((k : ℕ) → k < S / 2 → o k ≡ o' k)
@@ -203,14 +212,16 @@ output-ext {S} e o e' o' i b h p q = go (ltb i (S / 2)) refl
 pub outputs-is : {S : ℕ} (X Y F even odd out : List ℤ) → Bands S → Y ≡ build 16 (up_to (2 * S) (windowed S X))
     → F ≡ build 8 (up_to S (fold_column S (λ k. get_or Y k (pos 0))))
     → even ≡ build 4 (up_to (S / 2) (column_sum S F 0)) → odd ≡ build 4 (up_to (S / 2) (column_sum S F 1))
-    → out ≡ build 8 (up_to S (output_value S (λ k. get_or even k (pos 0)) (λ k. get_or odd k (pos 0)))) → out ≡ padded (analysis_outputs S X)
+    → out ≡ build 8 (up_to S (output_value S (λ k. get_or even k (pos 0)) (λ k. get_or odd k (pos 0))))
+    → out ≡ padded (analysis_outputs S X)
 unfolding output_value subband_sample analysis_outputs
 outputs-is {S} X Y F even odd out b y f e o r =
     r
     ∙ filled-ext 8 S _ (subband_sample S (windowed S X))
     (λ i h. ap (λ z. floor_div z (2 ^ 33))
     (output-ext (λ k. get_or even k (pos 0)) (λ k. get_or odd k (pos 0)) _ _ i b h (entry even 0 e) (entry odd 1 o)
-    ∙ output-sum-is (λ k. get_or Y k (pos 0)) F b (λ c p. get_or-filled 8 S (fold_column S (λ k. get_or Y k (pos 0))) F c f p (bands-le b)) i h
+    ∙ output-sum-is (λ k. get_or Y k (pos 0)) F b (λ c p. get_or-filled 8 S (fold_column S (λ k. get_or Y k (pos 0))) F c f p (bands-le b))
+    i h
     ∙ sum_z-ext (2 * S) _ _ (λ k p. ap (λ z. analysis_cosine S i k *ℤ z)
     (get_or-filled 16 (2 * S) (windowed S X) Y k y p (for-bands (λ s. 2 * s ≤ 16) b (lit≤ tt) (lit≤ tt))))))
     ∙ padded-is S (subband_sample S (windowed S X)) (bands-le b)

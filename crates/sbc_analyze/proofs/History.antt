@@ -1,5 +1,5 @@
--- The history moved in place: a loop down moves it up by S, and a loop up puts the new samples in front. What is stored changes one place of a
--- list that is one function below a place and another from there on.
+-- The history moved in place: a loop down moves it up by S, and a loop up puts the new samples in front. What is stored changes one place
+-- of a list that is one function below a place and another from there on.
 -- Assumes nothing.
 use Prim.Native.Nat.{ℕ, ◌+◌, ◌*◌, ◌-◌, ◌^◌, ◌≤◌, ◌<◌}
 use mathlib.Core.Path.{◌≡◌, refl, sym, ap, ◌∙◌}
@@ -42,7 +42,8 @@ module _ (n : ℕ) (f g : ℕ → ℤ) (k : ℕ) (xs : List ℤ) (v : ℤ) (fits
   pub store_up : xs ≡ build n (spliced_at k f g) → v ≡ f k → set xs k (to_z w16 (of_z w16 v)) ≡ build n (spliced_at (k + 1) f g)
   store_up e q =
       ap (λ (l : List ℤ). set l k (to_z w16 (of_z w16 v))) e
-      ∙ build-set n (spliced_at k f g) (spliced_at (k + 1) f g) k _ (pos 0) (to_z-of_z fits ∙ q ∙ sym (spliced-below (k + 1) f g k (omega arith))) (spliced-next k f g)
+      ∙ build-set n (spliced_at k f g) (spliced_at (k + 1) f g) k _ (pos 0)
+      (to_z-of_z fits ∙ q ∙ sym (spliced-below (k + 1) f g k (omega arith))) (spliced-next k f g)
 
   store-down : xs ≡ build n (spliced_at (k + 1) f g) → v ≡ g k → set xs k (to_z w16 (of_z w16 v)) ≡ build n (spliced_at k f g)
   store-down e q =
@@ -55,7 +56,8 @@ module _ (X : List ℤ) where
   pub none-moved : (S count : ℕ) → X ≡ build (length X) (spliced_at (count + S) (λ k. get_or X k (pos 0)) (moved_up S count X))
   none-moved S count =
       sym (build-is (length X) _ X (pos 0) refl
-      (λ k h. by-test (λ z. z ≡ get_or X k (pos 0)) (ltb k (count + S)) (get_or X k (pos 0)) (moved_up S count X k) (λ _. refl) (λ q. rw q)))
+      (λ k h. by-test (λ z. z ≡ get_or X k (pos 0)) (ltb k (count + S)) (get_or X k (pos 0)) (moved_up S count X k) (λ _. refl)
+      (λ q. rw q)))
 
   pub none-entered : (f : ℕ → ℤ) → X ≡ build (length X) (spliced_at 0 f (λ k. get_or X k (pos 0)))
   none-entered f = sym (build-is (length X) _ X (pos 0) refl (λ k h. spliced-from 0 f (λ i. get_or X i (pos 0)) k (omega arith)))
@@ -81,7 +83,8 @@ module _ (S count : ℕ) (X xs : List ℤ) (k n : ℕ) (q : n ≡ k + 1) (h : k 
   here = rw (lt-ltb (k + S) (count + S) (omega arith)) (ap (λ (i : ℕ). get_or X i (pos 0)) (omega arith))
 
   pub moved-step : mag (get_or xs k (pos 0)) < 2 ^ 15
-      → set xs (k + S) (to_z w16 (of_z w16 (get_or xs k (pos 0)))) ≡ build (length X) (spliced_at (k + S) (λ i. get_or X i (pos 0)) (moved_up S count X))
+      → set xs (k + S) (to_z w16 (of_z w16 (get_or xs k (pos 0))))
+      ≡ build (length X) (spliced_at (k + S) (λ i. get_or X i (pos 0)) (moved_up S count X))
   moved-step fits =
       store-down (length X) (λ i. get_or X i (pos 0)) (moved_up S count X) (k + S) xs (get_or xs k (pos 0)) (record { sfits = fits })
       (spliced-at (length X) (n + S) (k + S + 1) (λ i. get_or X i (pos 0)) (moved_up S count X) xs (omega arith) e) (unmoved ∙ sym here)

@@ -41,7 +41,8 @@ module _ {S : ℕ} (k j index : ℕ) (b : Bands S) (e : index ≡ k + 2 * S * j)
   window_more = for-bands (λ s. index ≡ k + 2 * s * j → index < 10 * s → j < 5) b (λ q h. omega arith) (λ q h. omega arith) e
 
   pub window-done : k < 2 * S → 10 * S ≤ index → 5 ≤ j
-  window-done = for-bands (λ s. index ≡ k + 2 * s * j → k < 2 * s → 10 * s ≤ index → 5 ≤ j) b (λ q l h. omega arith) (λ q l h. omega arith) e
+  window-done = for-bands (λ s. index ≡ k + 2 * s * j → k < 2 * s → 10 * s ≤ index → 5 ≤ j) b (λ q l h. omega arith) (λ q l h. omega arith)
+      e
 
   pub window-step : index + 2 * S ≡ k + 2 * S * (j + 1)
   window-step = for-bands (λ s. index ≡ k + 2 * s * j → index + 2 * s ≡ k + 2 * s * (j + 1)) b (λ q. omega arith) (λ q. omega arith) e

@@ -1,7 +1,8 @@
 -- How the code of the analysis takes the sums in parts, for the contracts of its inner functions alone: entries whose cosines are equal or
 -- opposite are added or subtracted first, and the history moves in two steps. No call of a user's cites this.
 -- From document 01, "Filterbanks": "The Rust's folding and ring must equal these sums."
-use Rattle.std.specs.Prelude.{ℕ, ◌+◌, ◌*◌, ◌-◌, ◌/◌, ◌^◌, List, ◌++◌, eqb, leb, ltb, length, get_or, ℤ, pos, negsuc, ◌+ℤ◌, ◌-ℤ◌, ◌*ℤ◌, if◌then◌else◌}
+use Rattle.std.specs.Prelude.{ℕ, ◌+◌, ◌*◌, ◌-◌, ◌/◌, ◌^◌, List, ◌++◌, eqb, leb, ltb, length, get_or, ℤ, pos, negsuc, ◌+ℤ◌, ◌-ℤ◌, ◌*ℤ◌}
+use Rattle.std.specs.Prelude.{if◌then◌else◌}
 use Rattle.laws.specs.Lists.{collect, build}
 use Rattle.laws.specs.Integers.{floor_div}
 use Rattle.laws.specs.Sums.{sum_z}
@@ -38,7 +39,8 @@ fold_column S Y c = Y (S / 2 + c) +ℤ fold_sign S c *ℤ Y (fold_mirror S c)
 -- the matrix: for each output in the first half, the cosines of its even columns, and then those of its odd ones
 unfoldable pub analysis_columns : ℕ → List ℤ
 analysis_columns S =
-    collect (S / 2) (λ i. build (S / 2) (λ n. analysis_cosine S i (S / 2 + 2 * n)) ++ build (S / 2) (λ n. analysis_cosine S i (S / 2 + 2 * n + 1)))
+    collect (S / 2)
+    (λ i. build (S / 2) (λ n. analysis_cosine S i (S / 2 + 2 * n)) ++ build (S / 2) (λ n. analysis_cosine S i (S / 2 + 2 * n + 1)))
 
 -- entries of the matrix, from `at` on, times the even columns (odd = 0), or the odd ones (1); and all that output i takes of them
 abbrev pub column_term : List ℤ → List ℤ → ℕ → ℕ → ℕ → ℤ

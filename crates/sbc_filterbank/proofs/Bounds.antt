@@ -1,5 +1,5 @@
--- The sums with the prototype, as the code takes them, with bounds that grow by an entry of the prototype at a time, so that what is read of a
--- history need not be known before it is read.
+-- The sums with the prototype, as the code takes them, with bounds that grow by an entry of the prototype at a time, so that what is read
+-- of a history need not be known before it is read.
 -- Assumes nothing.
 use Prim.Native.Nat.{ℕ, ◌+◌, ◌*◌, ◌-◌, ◌^◌, ◌≤◌, ◌<◌}
 use mathlib.Core.Path.{◌≡◌, refl, sym, ap, ◌∙◌, subst}
@@ -31,7 +31,8 @@ module _ {b : ℕ} {p x : ℕ → ℤ} {n : ℕ} {s : ℤ} (w : Summed b p x n s
   unfolding sum_z total
   grown h =
       rw (add-one n, add-mul (total n (λ k. nat_abs (p k))) (nat_abs (p n)) b)
-      (le_trans (nat_abs-+ (sum_z n (λ k. p k *ℤ x k)) (p n *ℤ x n)) (add-le-add w.small (nat_abs-*-le (p n) (x n) (le_refl (nat_abs (p n))) h)))
+      (le_trans (nat_abs-+ (sum_z n (λ k. p k *ℤ x k)) (p n *ℤ x n))
+      (add-le-add w.small (nat_abs-*-le (p n) (x n) (le_refl (nat_abs (p n))) h)))
 
   pub summed-next : mag y < 2 ^ 31 → mag z < 2 ^ 31 → y ≡ p n → z ≡ x n → nat_abs z ≤ b
       → Summed b p x (n + 1) (s +ℤ to_z w32 (of_z w32 y) *ℤ to_z w32 (of_z w32 z))
@@ -43,7 +44,8 @@ module _ {b : ℕ} {p x : ℕ → ℤ} {n : ℕ} {s : ℤ} (w : Summed b p x n s
   within : n ≤ m → nat_abs s ≤ c * b
   within h =
       let fewer : total n (λ k. nat_abs (p k)) ≤ total m (λ k. nat_abs (p k)) =
-      subst (λ (i : ℕ). total n (λ k. nat_abs (p k)) ≤ total i (λ k. nat_abs (p k))) (omega arith) (total-fewer n (m - n) (λ k. nat_abs (p k))) in
+      subst (λ (i : ℕ). total n (λ k. nat_abs (p k)) ≤ total i (λ k. nat_abs (p k))) (omega arith)
+      (total-fewer n (m - n) (λ k. nat_abs (p k))) in
       subst (λ (z : ℤ). nat_abs z ≤ c * b) (sym w.is) (le_trans w.small (mul-le-mul_right b (le_trans fewer t)))
 
   pub summed-fits : n ≤ m → c * b < 2 ^ 63 → SFits w64 s

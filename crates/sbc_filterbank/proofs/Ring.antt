@@ -51,7 +51,8 @@ module _ {S : ℕ} (v values : List ℤ) (newest : ℕ) (bands : Bands S) (l : l
       go : (t : Bool) → ltb slot (next_slot newest) ≡ t
           → get_or (overwrite (2 * S * next_slot newest) (2 * S) (λ k. get_or v k (pos 0)) values) (2 * S * slot + r) (pos 0)
           ≡ get_or values (2 * S * slot + r) (pos 0)
-      go true e = overwrite-below (2 * S * next_slot newest) _ values (2 * S) _ (pos 0) (before slot (next_slot newest) r bands (ltb-true _ _ e) p)
+      go true e = overwrite-below (2 * S * next_slot newest) _ values (2 * S) _ (pos 0)
+          (before slot (next_slot newest) r bands (ltb-true _ _ e) p)
       go false e =
           let q : next_slot newest < slot = omega (arith, ltb-false slot (next_slot newest) e) in
           overwrite-above (2 * S * next_slot newest) _ values (2 * S) _ (pos 0) (after slot (next_slot newest) r bands q)
@@ -60,7 +61,9 @@ module _ {S : ℕ} (v values : List ℤ) (newest : ℕ) (bands : Bands S) (l : l
   unfolding slot_vector ring_pushed
   newest-is =
       build-is (2 * S) _ v (pos 0) m
-      (λ r p. ap (λ (k : ℕ). get_or (overwrite (2 * S * next_slot newest) (2 * S) (λ i. get_or v i (pos 0)) values) (2 * S * k + r) (pos 0)) (omega arith)
+      (λ r p. ap
+      (λ (k : ℕ). get_or (overwrite (2 * S * next_slot newest) (2 * S) (λ i. get_or v i (pos 0)) values) (2 * S * k + r) (pos 0))
+      (omega arith)
       ∙ overwrite-at (2 * S * next_slot newest) _ values (2 * S) r (pos 0) p
       (subst (λ (n : ℕ). 2 * S * next_slot newest + 2 * S ≤ n) (sym l) (slot-end (next_slot newest) bands (omega arith))))
 
@@ -77,7 +80,8 @@ module _ {S : ℕ} (v values : List ℤ) (newest : ℕ) (bands : Bands S) (l : l
       build-is 10 _ (v ∷ take 9 (ring S values newest)) []
       (ap suc (length-take 9 (ring S values newest) ∙ omega (arith, length-build 10 (slot_vector S values newest)))) each
     where
-      each : (b : ℕ) → b < 10 → slot_vector S (ring_pushed S v values newest) (next_slot newest) b ≡ get_or (v ∷ take 9 (ring S values newest)) b []
+      each : (b : ℕ) → b < 10
+          → slot_vector S (ring_pushed S v values newest) (next_slot newest) b ≡ get_or (v ∷ take 9 (ring S values newest)) b []
       each zero h = newest-is
       each (suc b) h =
           older-is b (omega arith)

@@ -15,16 +15,20 @@ use Rattle.laws.proofs.Abs.{nat_abs-+, nat_abs--, nat_abs-*-le, within-fits, sum
 use Rattle.laws.proofs.Floor.{nat_abs-floor, floor-fits}
 
 -- an entry of an array within a
-pub read-entry : (w : Width) (xs : List ℤ) {a : ℕ} → Within a xs → a < 2 ^ hbits w → (i : ℕ) → to_z w (of_z w (get_or xs i (pos 0))) ≡ get_or xs i (pos 0)
+pub read-entry : (w : Width) (xs : List ℤ) {a : ℕ} → Within a xs → a < 2 ^ hbits w → (i : ℕ)
+    → to_z w (of_z w (get_or xs i (pos 0))) ≡ get_or xs i (pos 0)
 read-entry w xs p l i = to_z-of_z (within-fits w (get_or xs i (pos 0)) (p i) l)
 
-pub read-within : (w : Width) (xs : List ℤ) {a : ℕ} → Within a xs → a < 2 ^ hbits w → (i : ℕ) → nat_abs (to_z w (of_z w (get_or xs i (pos 0)))) ≤ a
+pub read-within : (w : Width) (xs : List ℤ) {a : ℕ} → Within a xs → a < 2 ^ hbits w → (i : ℕ)
+    → nat_abs (to_z w (of_z w (get_or xs i (pos 0)))) ≤ a
 read-within w xs {a} p l i = subst (λ (z : ℤ). nat_abs z ≤ a) (sym (read-entry w xs p l i)) (p i)
 
 -- and a number within a that is divided
-pub divided-within : (w : Width) (z : ℤ) (m : ℕ) {a : ℕ} → 0 < m → nat_abs z ≤ a → a < 2 ^ hbits w → nat_abs (to_z w (of_z w (floor_div z m))) ≤ a
+pub divided-within : (w : Width) (z : ℤ) (m : ℕ) {a : ℕ} → 0 < m → nat_abs z ≤ a → a < 2 ^ hbits w
+    → nat_abs (to_z w (of_z w (floor_div z m))) ≤ a
 divided-within w z m {a} p h l =
-    let k : nat_abs (floor_div z m) ≤ a = nat_abs-floor z m a p (le_trans h (subst (λ (n : ℕ). n ≤ a * m) (mul-one a) (mul-le-mul (le_refl a) p))) in
+    let k : nat_abs (floor_div z m) ≤ a = nat_abs-floor z m a p
+    (le_trans h (subst (λ (n : ℕ). n ≤ a * m) (mul-one a) (mul-le-mul (le_refl a) p))) in
     subst (λ (y : ℤ). nat_abs y ≤ a) (sym (to_z-of_z (within-fits w (floor_div z m) k l))) k
 
 pub read-divided : (w : Width) (z : ℤ) (m : ℕ) → SFits w z → to_z w (of_z w (floor_div (to_z w (of_z w z)) m)) ≡ floor_div z m
@@ -43,7 +47,8 @@ module _ (w : Width) (xs : List ℤ) {a : ℕ} (p : Within a xs) (l : a + a < 2 
   signed-entry-fits s j h = rw (read-entry w xs p (omega arith) j) (signed-fits w s (get_or xs j (pos 0)) h (p j) (omega arith))
 
   plus-signed : (s : ℤ) (i j : ℕ) → nat_abs s ≤ 1
-      → to_z w (of_z w (get_or xs i (pos 0))) +ℤ to_z w (of_z w (s *ℤ to_z w (of_z w (get_or xs j (pos 0))))) ≡ get_or xs i (pos 0) +ℤ s *ℤ get_or xs j (pos 0)
+      → to_z w (of_z w (get_or xs i (pos 0))) +ℤ to_z w (of_z w (s *ℤ to_z w (of_z w (get_or xs j (pos 0)))))
+      ≡ get_or xs i (pos 0) +ℤ s *ℤ get_or xs j (pos 0)
   plus-signed s i j h =
       ap₂ (λ (u v : ℤ). u +ℤ v) (read-entry w xs p (omega arith) i)
       (to_z-of_z (signed-entry-fits s j h) ∙ ap (λ (v : ℤ). s *ℤ v) (read-entry w xs p (omega arith) j))
@@ -73,22 +78,26 @@ module _ (w : Width) (xs ys : List ℤ) {a b : ℕ} (p : Within a xs) (q : Withi
   pub minus-fits : SFits w (to_z w (of_z w (get_or xs i (pos 0))) -ℤ to_z w (of_z w (get_or ys j (pos 0))))
   minus-fits = subst (SFits w) (sym minus) (difference-fits w (get_or xs i (pos 0)) (get_or ys j (pos 0)) (p i) (q j) l)
 
-  pub read-plus : to_z w (of_z w (to_z w (of_z w (get_or xs i (pos 0))) +ℤ to_z w (of_z w (get_or ys j (pos 0))))) ≡ get_or xs i (pos 0) +ℤ get_or ys j (pos 0)
+  pub read-plus : to_z w (of_z w (to_z w (of_z w (get_or xs i (pos 0))) +ℤ to_z w (of_z w (get_or ys j (pos 0)))))
+      ≡ get_or xs i (pos 0) +ℤ get_or ys j (pos 0)
   read-plus = to_z-of_z plus-fits ∙ plus
 
-  pub read-minus : to_z w (of_z w (to_z w (of_z w (get_or xs i (pos 0))) -ℤ to_z w (of_z w (get_or ys j (pos 0))))) ≡ get_or xs i (pos 0) -ℤ get_or ys j (pos 0)
+  pub read-minus : to_z w (of_z w (to_z w (of_z w (get_or xs i (pos 0))) -ℤ to_z w (of_z w (get_or ys j (pos 0)))))
+      ≡ get_or xs i (pos 0) -ℤ get_or ys j (pos 0)
   read-minus = to_z-of_z minus-fits ∙ minus
 
   -- divided by 2 ^ 33, an i32 within c, where a + b is within c times that
   module _ (c : ℕ) (k : a + b ≤ c * 2 ^ 33) (m : c < 2 ^ 31) where
-    pub plus-shifted : SFits w32 (floor_div (to_z w (of_z w (to_z w (of_z w (get_or xs i (pos 0))) +ℤ to_z w (of_z w (get_or ys j (pos 0)))))) (2 ^ 33))
+    pub plus-shifted : SFits w32
+        (floor_div (to_z w (of_z w (to_z w (of_z w (get_or xs i (pos 0))) +ℤ to_z w (of_z w (get_or ys j (pos 0)))))) (2 ^ 33))
     plus-shifted =
         rw read-plus
         (within-fits w32 (floor_div (get_or xs i (pos 0) +ℤ get_or ys j (pos 0)) (2 ^ 33))
         (nat_abs-floor (get_or xs i (pos 0) +ℤ get_or ys j (pos 0)) (2 ^ 33) c (omega arith)
         (le_trans (nat_abs-+ (get_or xs i (pos 0)) (get_or ys j (pos 0))) (le_trans (add-le-add (p i) (q j)) k))) m)
 
-    pub minus-shifted : SFits w32 (floor_div (to_z w (of_z w (to_z w (of_z w (get_or xs i (pos 0))) -ℤ to_z w (of_z w (get_or ys j (pos 0)))))) (2 ^ 33))
+    pub minus-shifted : SFits w32
+        (floor_div (to_z w (of_z w (to_z w (of_z w (get_or xs i (pos 0))) -ℤ to_z w (of_z w (get_or ys j (pos 0)))))) (2 ^ 33))
     minus-shifted =
         rw read-minus
         (within-fits w32 (floor_div (get_or xs i (pos 0) -ℤ get_or ys j (pos 0)) (2 ^ 33))

@@ -1,5 +1,5 @@
--- How the code of both directions holds the cosines of the folded sums, for the contracts of its inner functions alone: in one list, of which a
--- sum takes a part. No call of a user's cites this. From document 01, "Filterbanks".
+-- How the code of both directions holds the cosines of the folded sums, for the contracts of its inner functions alone: in one list, of
+-- which a sum takes a part. No call of a user's cites this. From document 01, "Filterbanks".
 use Rattle.std.specs.Prelude.{ℕ, ◌+◌, ◌^◌, ◌≤◌, List, length, ℤ}
 use Rattle.laws.specs.Integers.{Within}
 

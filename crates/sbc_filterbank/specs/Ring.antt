@@ -1,5 +1,5 @@
--- The ten vectors of the synthesis filterbank as a ring: 160 numbers, of which each of ten slots takes 2 S, and the slot of the newest vector.
--- The older vectors stand in the slots after it, round the ring. `newest` counts mod 10, so that every number is a slot.
+-- The ten vectors of the synthesis filterbank as a ring: 160 numbers, of which each of ten slots takes 2 S, and the slot of the newest
+-- vector. The older vectors stand in the slots after it, round the ring. `newest` counts mod 10, so that every number is a slot.
 -- From document 01, "Filterbanks": "The Rust's folding and ring must equal these sums."
 use Rattle.std.specs.Prelude.{ℕ, ◌+◌, ◌*◌, ◌%◌, List, get_or, ℤ, pos}
 use Rattle.laws.specs.Lists.{build}

@@ -1,5 +1,5 @@
--- The synthesis filterbank (document 01, "Filterbanks") for S subbands: the subband samples s give a vector V, which is pushed as the newest
--- of ten, and the ten vectors give S outputs. The history is the list of the ten vectors, newest first, each of 2 S numbers.
+-- The synthesis filterbank (document 01, "Filterbanks") for S subbands: the subband samples s give a vector V, which is pushed as the
+-- newest of ten, and the ten vectors give S outputs. The history is the list of the ten vectors, newest first, each of 2 S numbers.
 use Rattle.std.specs.Prelude.{ℕ, ◌+◌, ◌*◌, ◌-◌, ◌/◌, ◌^◌, List, [], ◌∷◌, eqb, get_or, take, ℤ, pos, ◌-ℤ◌, ◌*ℤ◌, if◌then◌else◌}
 use Rattle.std.specs.Int.{w16, w32}
 use Rattle.laws.specs.Lists.{build}

@@ -36,7 +36,8 @@ halves b = for-bands (λ s. s ≡ 2 * (s / 2)) b refl refl
 -- ---- the coefficients of the subband samples in the rows
 weight : ℕ → ℕ → ℕ → ℤ
 weight S m i =
-    coefficient (S / 2) (λ n. get_or (synthesis_rows S) (m * (S / 2) + n) (pos 0)) (λ n. pair_sign (row_odd S m)) (λ n. n) (λ n. S - 1 - n) i
+    coefficient (S / 2) (λ n. get_or (synthesis_rows S) (m * (S / 2) + n) (pos 0)) (λ n. pair_sign (row_odd S m)) (λ n. n) (λ n. S - 1 - n)
+    i
 
 right : ℕ → ℕ → ℕ → Bool
 right S r i = eq_z (row_sign S r *ℤ weight S (row_source S r) i) (synthesis_cosine S r i)
@@ -65,8 +66,10 @@ module _ (S : ℕ) (s : ℕ → ℤ) (sums differences : List ℤ) (p : (k : ℕ
   row-sum-is : (m : ℕ) → row_sum S sums differences m ≡ sum_z S (λ i. weight S m i *ℤ s i)
   unfolding row_sum weight pair_of
   row-sum-is m =
-      sum_z-ext (S / 2) _ _ (λ n h. ap (λ z. get_or (synthesis_rows S) (m * (S / 2) + n) (pos 0) *ℤ z) (chosen (row_odd S m) n h (omega arith)))
-      ∙ folded (S / 2) S (λ n. get_or (synthesis_rows S) (m * (S / 2) + n) (pos 0)) (λ n. pair_sign (row_odd S m)) (λ n. n) (λ n. S - 1 - n) s
+      sum_z-ext (S / 2) _ _
+      (λ n h. ap (λ z. get_or (synthesis_rows S) (m * (S / 2) + n) (pos 0) *ℤ z) (chosen (row_odd S m) n h (omega arith)))
+      ∙ folded (S / 2) S (λ n. get_or (synthesis_rows S) (m * (S / 2) + n) (pos 0)) (λ n. pair_sign (row_odd S m)) (λ n. n)
+      (λ n. S - 1 - n) s
       (λ n h. omega arith) (λ n h. omega arith)
 
 -- the sum with the pairs that its row takes
@@ -87,7 +90,8 @@ source-below {S} r b h =
     (λ _. for-bands (λ s. s / 2 ≤ r → s - r < s) b (λ x. omega arith) (λ x. omega arith) (ltb-false r (S / 2) e))
     (λ _. by-test (λ z. z < S) (leb r (3 * (S / 2))) (r - S / 2 - 1) (5 * (S / 2) - r - 1)
     (λ g. for-bands (λ s. r ≤ 3 * (s / 2) → r - s / 2 - 1 < s) b (λ x. omega arith) (λ x. omega arith) (leb-true r (3 * (S / 2)) g))
-    (λ g. for-bands (λ s. 3 * (s / 2) < r → 5 * (s / 2) - r - 1 < s) b (λ x. omega arith) (λ x. omega arith) (leb-false r (3 * (S / 2)) g))))
+    (λ g. for-bands (λ s. 3 * (s / 2) < r → 5 * (s / 2) - r - 1 < s) b (λ x. omega arith) (λ x. omega arith)
+    (leb-false r (3 * (S / 2)) g))))
 
 pub row-sign-small : (S r : ℕ) → nat_abs (row_sign S r) ≤ 1
 row-sign-small S r = go (eqb r (S / 2)) (ltb r (S / 2)) (leb r S)
@@ -153,13 +157,15 @@ pub pairs-within : (S odd : ℕ) (input pairs : List ℤ) → Within (2 ^ 29) in
     → pairs ≡ build 4 (up_to (S / 2) (pair_of S odd (λ k. get_or input k (pos 0)))) → Within (2 ^ 30) pairs
 pairs-within S odd input pairs w e =
     subst (Within (2 ^ 30)) (sym e)
-    (within-up_to 4 (S / 2) (2 ^ 30) (pair_of S odd (λ k. get_or input k (pos 0))) (λ n p. pair-bound S (λ k. get_or input k (pos 0)) odd n w))
+    (within-up_to 4 (S / 2) (2 ^ 30) (pair_of S odd (λ k. get_or input k (pos 0)))
+    (λ n p. pair-bound S (λ k. get_or input k (pos 0)) odd n w))
 
 -- ---- the matrix, and the bounds of the rows
 matrix-within : {S : ℕ} → Bands S → Within (2 ^ 30) (synthesis_rows S)
 unfolding synthesis_rows collect build synthesis_cosine cosine_at cosines
 matrix-within b =
-    for-bands (λ s. Within (2 ^ 30) (synthesis_rows s)) b (table-within (2 ^ 30) (synthesis_rows 4) tt) (table-within (2 ^ 30) (synthesis_rows 8) tt)
+    for-bands (λ s. Within (2 ^ 30) (synthesis_rows s)) b (table-within (2 ^ 30) (synthesis_rows 4) tt)
+    (table-within (2 ^ 30) (synthesis_rows 8) tt)
 
 matrix-size : {S : ℕ} → Bands S → length (synthesis_rows S) ≡ S * (S / 2)
 unfolding synthesis_rows collect build

@@ -1,5 +1,5 @@
--- How the code of the synthesis takes the sums of a vector in parts, for the contracts of its inner functions alone: samples whose cosines are equal
--- or opposite are added or subtracted first. No call of a user's cites this.
+-- How the code of the synthesis takes the sums of a vector in parts, for the contracts of its inner functions alone: samples whose cosines
+-- are equal or opposite are added or subtracted first. No call of a user's cites this.
 -- From document 01, "Filterbanks": "The Rust's folding and ring must equal these sums."
 use Rattle.std.specs.Prelude.{ℕ, ◌+◌, ◌*◌, ◌-◌, ◌/◌, ◌%◌, ◌^◌, List, eqb, leb, ltb, get_or, ℤ, pos, negsuc, ◌+ℤ◌, ◌*ℤ◌, if◌then◌else◌}
 use Rattle.std.specs.Int.{w32}

@@ -1,5 +1,5 @@
-// The vector that the samples of the subbands give in synthesis: sums and differences of samples times the cosines of a matrix, and each row of the
-// vector from a row of the matrix.
+// The vector that the samples of the subbands give in synthesis: sums and differences of samples times the cosines of a matrix, and each
+// row of the vector from a row of the matrix.
 //
 // Each loop is written once, over the number of subbands; the caller hands it down as a literal, so that the compiler makes a loop of known
 // length for each.
@@ -17,7 +17,8 @@ ghost use Rattle.sbc_modulate.specs.Fold.{pair_of, row_odd, synthesis_rows, row_
 
 pub use matrices::{SYNTHESIS_4_ROWS, SYNTHESIS_8_ROWS, rows_of_4, rows_of_8};
 
-// s[n] with its mirror added (`odd` 0), or subtracted (1). The cosines of a row are equal or opposite at the two, so each product serves both.
+// s[n] with its mirror added (`odd` 0), or subtracted (1). The cosines of a row are equal or opposite at the two, so each product serves
+// both.
 fn pair(input: &[i32; 8], subbands: usize, odd: usize, n: usize) -> i32
     requires { (Bands subbands) × (n < subbands / 2) × (Within (2 ^ 29) input.now) }
     ensures { result ≡ pair_of subbands odd (λ k. get_or input.now k (pos 0)) n }
@@ -56,7 +57,8 @@ fn row_sum(matrix: &[i32], pairs: &[i32; 4], at: usize, count: usize) -> i64
 
 // Row m of the matrix, times the sums or the differences.
 fn row(matrix: &[i32], sums: &[i32; 4], differences: &[i32; 4], subbands: usize, m: usize) -> i64
-    requires { (Bands subbands) × (m < subbands) × (matrix.now ≡ synthesis_rows subbands) × (Within (2 ^ 30) sums.now) × (Within (2 ^ 30) differences.now) }
+    requires { (Bands subbands) × (m < subbands) × (matrix.now ≡ synthesis_rows subbands)
+        × (Within (2 ^ 30) sums.now) × (Within (2 ^ 30) differences.now) }
     ensures { result ≡ row_sum subbands sums.now differences.now m }
 {
     let half = subbands / 2;

@@ -41,14 +41,16 @@ place-in-below {S} b j h = subst (λ (n : ℕ). n < 2 * S) (place_is S j b) (row
 -- as if the slots went on: the place is below 320; up to the tenth slot it is the ring's, and past it 20 S too far
 pub place-ahead : {S : ℕ} (newest j b : ℕ) → Bands S → newest < 10 → j < S → b < 10 → 2 * S * (newest + b) + (b % 2 * S + j) < 320
 place-ahead newest j b s =
-    for-bands (λ s. newest < 10 → j < s → b < 10 → 2 * s * (newest + b) + (b % 2 * s + j) < 320) s (λ n l h. omega arith) (λ n l h. omega arith)
+    for-bands (λ s. newest < 10 → j < s → b < 10 → 2 * s * (newest + b) + (b % 2 * s + j) < 320) s (λ n l h. omega arith)
+    (λ n l h. omega arith)
 
 -- the tap of output j and vector b
 pub tap-below : {S : ℕ} (j b : ℕ) → Bands S → j < S → b < 10 → b * S + j < 10 * S
 tap-below j b s = for-bands (λ s. j < s → b < 10 → b * s + j < 10 * s) s (λ l h. omega arith) (λ l h. omega arith)
 
 pub place-first : {S : ℕ} (newest j b : ℕ) → Bands S → j < S → newest + b < 10
-    → (2 * S * (newest + b) + (b % 2 * S + j) ≡ 2 * S * ((newest + b) % 10) + vector_place S j b) × (2 * S * (newest + b) + (b % 2 * S + j) < 160)
+    → (2 * S * (newest + b) + (b % 2 * S + j) ≡ 2 * S * ((newest + b) % 10) + vector_place S j b)
+    × (2 * S * (newest + b) + (b % 2 * S + j) < 160)
 place-first {S} newest j b s l h =
     let e : newest + b ≡ (newest + b) % 10 = omega arith in
     (ap₂ (λ (n m : ℕ). 2 * S * n + m) e (place_is S j b), place-below (newest + b) _ s h (row_below b j l))

@@ -68,10 +68,12 @@ rounded-bits S h sum e = ap (λ (n : ℕ). clamp_z w16 (floor_div (pos (2 ^ (n -
 
 pub rounded-4 : (S : ℕ) (sum : ℤ) → S ≡ 4 → clamp_z w16 (floor_div (floor_div (pos 0 -ℤ sum) (2 ^ 37) +ℤ pos 1) 2) ≡ rounded S sum
 rounded-4 S sum e =
-    ap (clamp_z w16) (half-less (2 ^ 37) (2 ^ 38) (λ a. omega arith) (λ a h. (omega arith, omega arith)) (λ a h. (omega arith, omega arith)) sum)
+    ap (clamp_z w16) (half-less (2 ^ 37) (2 ^ 38) (λ a. omega arith) (λ a h. (omega arith, omega arith))
+    (λ a h. (omega arith, omega arith)) sum)
     ∙ rounded-bits S 38 sum (rw (eq-eqb S 4 e))
 
 pub rounded-8 : (S : ℕ) (sum : ℤ) → (S ≡ 4 → ⊥) → clamp_z w16 (floor_div (floor_div (pos 0 -ℤ sum) (2 ^ 36) +ℤ pos 1) 2) ≡ rounded S sum
 rounded-8 S sum ne =
-    ap (clamp_z w16) (half-less (2 ^ 36) (2 ^ 37) (λ a. omega arith) (λ a h. (omega arith, omega arith)) (λ a h. (omega arith, omega arith)) sum)
+    ap (clamp_z w16) (half-less (2 ^ 36) (2 ^ 37) (λ a. omega arith) (λ a h. (omega arith, omega arith))
+    (λ a h. (omega arith, omega arith)) sum)
     ∙ rounded-bits S 37 sum (rw (ne_eqb S 4 ne))

@@ -1,5 +1,5 @@
--- How the code of the synthesis sums the outputs, vector by vector, for the contracts of its inner functions alone. No call of a user's cites this.
--- From document 01, "Filterbanks": "The Rust's folding and ring must equal these sums."
+-- How the code of the synthesis sums the outputs, vector by vector, for the contracts of its inner functions alone. No call of a user's
+-- cites this. From document 01, "Filterbanks": "The Rust's folding and ring must equal these sums."
 use Rattle.std.specs.Prelude.{ℕ, ◌+◌, ◌*◌, ◌^◌, ◌≤◌, ◌<◌, ◌≡◌, List, ℤ, nat_abs}
 use Rattle.laws.specs.Lists.{build, total}
 use Rattle.laws.specs.Sums.{sum_z, up_to}

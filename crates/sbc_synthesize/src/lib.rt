@@ -1,5 +1,5 @@
-// The synthesis filterbank of SBC, block by block: the samples of the subbands give a vector, which enters a ring of ten, and the ten vectors give a
-// block.
+// The synthesis filterbank of SBC, block by block: the samples of the subbands give a vector, which enters a ring of ten, and the ten
+// vectors give a block.
 //
 // Each loop is written once, over the number of subbands; `synthesize8` and `synthesize4` hand it down as a literal, so that the compiler
 // makes a loop of known length for each.
@@ -39,7 +39,8 @@ fn add_vector(
     subbands: usize,
     b: usize,
 ) -> [i64; 8]
-    requires { (Bands subbands) × (newest < 10) × (b < 10) × (taps.now ≡ prototype subbands) × (OutputSums subbands (ring subbands values.now newest) b sums.now) }
+    requires { (Bands subbands) × (newest < 10) × (b < 10) × (taps.now ≡ prototype subbands)
+        × (OutputSums subbands (ring subbands values.now newest) b sums.now) }
     ensures { OutputSums subbands (ring subbands values.now newest) (b + 1) result }
 {
     let mut more = [0i64; 8];

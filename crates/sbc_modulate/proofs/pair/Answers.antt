@@ -25,7 +25,8 @@ pub bounds-input-subbands : goal.bounds-input-subbands
 bounds-input-subbands c = omega (arith, bands-le c.requires.0, halves c.requires.0)
 
 pub overflow_add-result : goal.overflow_add-result
-overflow_add-result c = plus-fits w32 c.args.input.now c.args.input.now c.requires.2 c.requires.2 (lit< tt) c.args.n (c.args.subbands - 1 - c.args.n)
+overflow_add-result c = plus-fits w32 c.args.input.now c.args.input.now c.requires.2 c.requires.2 (lit< tt) c.args.n
+    (c.args.subbands - 1 - c.args.n)
 
 pub returns-then-odd-eq0 : goal.returns-then-odd-eq0
 returns-then-odd-eq0 c =
@@ -33,7 +34,8 @@ returns-then-odd-eq0 c =
     ∙ sym (pair-even c.args.subbands (λ i. get_or c.args.input.now i (pos 0)) c.args.odd c.args.n c.if-odd-eq0.true)
 
 pub overflow_sub-result : goal.overflow_sub-result
-overflow_sub-result c = minus-fits w32 c.args.input.now c.args.input.now c.requires.2 c.requires.2 (lit< tt) c.args.n (c.args.subbands - 1 - c.args.n)
+overflow_sub-result c = minus-fits w32 c.args.input.now c.args.input.now c.requires.2 c.requires.2 (lit< tt) c.args.n
+    (c.args.subbands - 1 - c.args.n)
 
 pub returns : goal.returns
 returns c =

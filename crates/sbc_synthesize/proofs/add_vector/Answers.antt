@@ -27,7 +27,8 @@ use Rattle.sbc_synthesize.proofs.Blocks.{place-in-below, tap-below}
 use Rattle.sbc_synthesize.proofs.add_vector.Goals as goal
 
 -- what the turn reads, the ring at the place and a sum so far, and the sum with one term more
-module _ {S j b : ℕ} (newest : ℕ) (values taps sums : List ℤ) (at : ℕ) (bands : Bands S) (below : j < S) (here : b < 10) (p : taps ≡ prototype S)
+module _ {S j b : ℕ} (newest : ℕ) (values taps sums : List ℤ) (at : ℕ) (bands : Bands S) (below : j < S) (here : b < 10)
+    (p : taps ≡ prototype S)
     (o : OutputSums S (ring S values newest) b sums) (a : at ≡ 2 * S * ((newest + b) % 10) + vector_place S j b)
     (tap : mag (get_or taps (b * S + j) (pos 0)) < 2 ^ 31) (held : mag (get_or values at (pos 0)) < 2 ^ 31) where
   held-is : get_or values at (pos 0) ≡ vector_at (ring S values newest) b (vector_place S j b)
@@ -69,7 +70,9 @@ pub offset_bounds-taps-b : goal.offset_bounds-taps-b
 offset_bounds-taps-b c = omega (arith, tap-below c.loop-j.j c.args.b c.requires.0 c.loop-j-test.true c.requires.2, bands-le c.requires.0)
 
 pub bounds-taps-b : goal.bounds-taps-b
-bounds-taps-b c = omega (arith, tap-below c.loop-j.j c.args.b c.requires.0 c.loop-j-test.true c.requires.2, ap length c.requires.3, prototype-length c.requires.0)
+bounds-taps-b c =
+    let below = tap-below c.loop-j.j c.args.b c.requires.0 c.loop-j-test.true c.requires.2 in
+    omega (arith, below, ap length c.requires.3, prototype-length c.requires.0)
 
 pub offset_bounds-values-at : goal.offset_bounds-values-at
 offset_bounds-values-at c = omega (arith, c.place-at.ensures.1)
@@ -81,7 +84,8 @@ pub multiply_add-requires : goal.multiply_add-requires
 multiply_add-requires c =
     let tap : mag (get_or c.args.taps.now (c.args.b * c.args.subbands + c.loop-j.j) (pos 0)) < 2 ^ 31 = omega arith in
     let held : mag (get_or c.args.values.now c.place-at.result (pos 0)) < 2 ^ 31 = omega arith in
-    let n = next c.args.newest c.args.values.now c.args.taps.now c.args.sums.now c.place-at.result c.requires.0 c.loop-j-test.true c.requires.2 c.requires.3
+    let n = next c.args.newest c.args.values.now c.args.taps.now c.args.sums.now c.place-at.result c.requires.0 c.loop-j-test.true
+    c.requires.2 c.requires.3
     c.requires.4 c.place-at.ensures.0 tap held in
     summed-fits n 10 700000000 (tap-sum-bound c.loop-j.j c.requires.0 c.loop-j-test.true) (omega (arith, c.requires.2)) (lit< tt)
 
@@ -98,7 +102,8 @@ pub loop-j-preserved : goal.loop-j-preserved
 loop-j-preserved c =
     let tap : mag (get_or c.args.taps.now (c.args.b * c.args.subbands + c.loop-j.j) (pos 0)) < 2 ^ 31 = omega arith in
     let held : mag (get_or c.args.values.now c.place-at.result (pos 0)) < 2 ^ 31 = omega arith in
-    let n = next c.args.newest c.args.values.now c.args.taps.now c.args.sums.now c.place-at.result c.requires.0 c.loop-j-test.true c.requires.2 c.requires.3
+    let n = next c.args.newest c.args.values.now c.args.taps.now c.args.sums.now c.place-at.result c.requires.0 c.loop-j-test.true
+    c.requires.2 c.requires.3
     c.requires.4 c.place-at.ensures.0 tap held in
     let args = c.args in
     let turn = c.loop-j in (

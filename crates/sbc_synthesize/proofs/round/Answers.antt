@@ -43,14 +43,16 @@ overflow_add-shift_down c =
     let h : SFits w64 c.args.sum = c.ranges.sum in
     let k : SFits w64 (pos 0 -ℤ c.args.sum) = negated-sum c.args.sum c.requires in
     let e : c.shift_down.result ≡ floor_div (pos 0 -ℤ c.args.sum) (2 ^ 37) = simp to_z-of_z at c.shift_down.ensures in
-    rw (divided c.args.sum c.shift_down.result (2 ^ 37) (lit≤ tt) (lit< tt) c.requires c.shift_down.type_inv e) (one-more-fits c.args.sum (2 ^ 37) (lit≤ tt) (lit< tt) c.requires)
+    rw (divided c.args.sum c.shift_down.result (2 ^ 37) (lit≤ tt) (lit< tt) c.requires c.shift_down.type_inv e)
+    (one-more-fits c.args.sum (2 ^ 37) (lit≤ tt) (lit< tt) c.requires)
 
 pub overflow_cast-shift_down : goal.overflow_cast-shift_down
 overflow_cast-shift_down c =
     let h : SFits w64 c.args.sum = c.ranges.sum in
     let k : SFits w64 (pos 0 -ℤ c.args.sum) = negated-sum c.args.sum c.requires in
     let e : c.shift_down.result ≡ floor_div (pos 0 -ℤ c.args.sum) (2 ^ 37) = simp to_z-of_z at c.shift_down.ensures in
-    rw (halved c.args.sum c.shift_down.result (2 ^ 37) (lit≤ tt) (lit< tt) c.requires c.shift_down.type_inv e) (half-fits c.args.sum (2 ^ 37) (lit≤ tt) (lit< tt) c.requires)
+    rw (halved c.args.sum c.shift_down.result (2 ^ 37) (lit≤ tt) (lit< tt) c.requires c.shift_down.type_inv e)
+    (half-fits c.args.sum (2 ^ 37) (lit≤ tt) (lit< tt) c.requires)
 
 pub returns-then-subbands-eq4 : goal.returns-then-subbands-eq4
 returns-then-subbands-eq4 c =
@@ -58,7 +60,8 @@ returns-then-subbands-eq4 c =
     let k : SFits w64 (pos 0 -ℤ c.args.sum) = negated-sum c.args.sum c.requires in
     let e : c.shift_down.result ≡ floor_div (pos 0 -ℤ c.args.sum) (2 ^ 37) = simp to_z-of_z at c.shift_down.ensures in
     to_z-of_z {w = w16} (record { sfits = c.clamp_i16.type_inv }) ∙ c.clamp_i16.ensures
-    ∙ ap (λ (z : ℤ). clamp_z w16 (to_z w64 (of_z w64 z))) (halved c.args.sum c.shift_down.result (2 ^ 37) (lit≤ tt) (lit< tt) c.requires c.shift_down.type_inv e)
+    ∙ ap (λ (z : ℤ). clamp_z w16 (to_z w64 (of_z w64 z)))
+    (halved c.args.sum c.shift_down.result (2 ^ 37) (lit≤ tt) (lit< tt) c.requires c.shift_down.type_inv e)
     ∙ ap (clamp_z w16) (to_z-of_z (half-fits c.args.sum (2 ^ 37) (lit≤ tt) (lit< tt) c.requires))
     ∙ rounded-4 _ c.args.sum c.if-subbands-eq4.true
 
@@ -78,14 +81,16 @@ overflow_add-shift_down-2 c =
     let h : SFits w64 c.args.sum = c.ranges.sum in
     let k : SFits w64 (pos 0 -ℤ c.args.sum) = negated-sum c.args.sum c.requires in
     let e : c.shift_down-2.result ≡ floor_div (pos 0 -ℤ c.args.sum) (2 ^ 36) = simp to_z-of_z at c.shift_down-2.ensures in
-    rw (divided c.args.sum c.shift_down-2.result (2 ^ 36) (lit≤ tt) (lit< tt) c.requires c.shift_down-2.type_inv e) (one-more-fits c.args.sum (2 ^ 36) (lit≤ tt) (lit< tt) c.requires)
+    rw (divided c.args.sum c.shift_down-2.result (2 ^ 36) (lit≤ tt) (lit< tt) c.requires c.shift_down-2.type_inv e)
+    (one-more-fits c.args.sum (2 ^ 36) (lit≤ tt) (lit< tt) c.requires)
 
 pub overflow_cast-shift_down-2 : goal.overflow_cast-shift_down-2
 overflow_cast-shift_down-2 c =
     let h : SFits w64 c.args.sum = c.ranges.sum in
     let k : SFits w64 (pos 0 -ℤ c.args.sum) = negated-sum c.args.sum c.requires in
     let e : c.shift_down-2.result ≡ floor_div (pos 0 -ℤ c.args.sum) (2 ^ 36) = simp to_z-of_z at c.shift_down-2.ensures in
-    rw (halved c.args.sum c.shift_down-2.result (2 ^ 36) (lit≤ tt) (lit< tt) c.requires c.shift_down-2.type_inv e) (half-fits c.args.sum (2 ^ 36) (lit≤ tt) (lit< tt) c.requires)
+    rw (halved c.args.sum c.shift_down-2.result (2 ^ 36) (lit≤ tt) (lit< tt) c.requires c.shift_down-2.type_inv e)
+    (half-fits c.args.sum (2 ^ 36) (lit≤ tt) (lit< tt) c.requires)
 
 pub returns : goal.returns
 returns c =
@@ -93,6 +98,7 @@ returns c =
     let k : SFits w64 (pos 0 -ℤ c.args.sum) = negated-sum c.args.sum c.requires in
     let e : c.shift_down-2.result ≡ floor_div (pos 0 -ℤ c.args.sum) (2 ^ 36) = simp to_z-of_z at c.shift_down-2.ensures in
     to_z-of_z {w = w16} (record { sfits = c.clamp_i16-2.type_inv }) ∙ c.clamp_i16-2.ensures
-    ∙ ap (λ (z : ℤ). clamp_z w16 (to_z w64 (of_z w64 z))) (halved c.args.sum c.shift_down-2.result (2 ^ 36) (lit≤ tt) (lit< tt) c.requires c.shift_down-2.type_inv e)
+    ∙ ap (λ (z : ℤ). clamp_z w16 (to_z w64 (of_z w64 z)))
+    (halved c.args.sum c.shift_down-2.result (2 ^ 36) (lit≤ tt) (lit< tt) c.requires c.shift_down-2.type_inv e)
     ∙ ap (clamp_z w16) (to_z-of_z (half-fits c.args.sum (2 ^ 36) (lit≤ tt) (lit< tt) c.requires))
     ∙ rounded-8 _ c.args.sum c.if-subbands-eq4.false

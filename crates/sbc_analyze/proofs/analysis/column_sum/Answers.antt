@@ -1,5 +1,5 @@
--- `sbc_analyze::analysis::column_sum` meets its contract. The loop's invariant: the sum is that of the first n terms, and so within its bound.
--- Assumes nothing.
+-- `sbc_analyze::analysis::column_sum` meets its contract. The loop's invariant: the sum is that of the first n terms, and so within its
+-- bound. Assumes nothing.
 use Prim.Native.Nat.{ℕ, ◌+◌, ◌*◌, ◌^◌}
 use mathlib.Core.Path.{◌≡◌, refl, ◌∙◌, sym, ap, subst}
 use mathlib.Core.List.{List}
@@ -40,8 +40,8 @@ multiply_add-sum-requires c =
 
 pub loop-n-preserved : goal.loop-n-preserved
 loop-n-preserved c =
-    let e = next c.args.matrix.now c.args.columns.now c.args.at c.args.odd c.loop-n.n (to_z w64 c.loop-n.sum-bits) c.requires.2.3 c.requires.1
-    c.loop-n.invariant.1 in
+    let e = next c.args.matrix.now c.args.columns.now c.args.at c.args.odd c.loop-n.n (to_z w64 c.loop-n.sum-bits) c.requires.2.3
+    c.requires.1 c.loop-n.invariant.1 in
     (omega arith, read_back w64 c.multiply_add-sum.type_inv ∙ c.multiply_add-sum.ensures ∙ e)
 
 pub returns : goal.returns

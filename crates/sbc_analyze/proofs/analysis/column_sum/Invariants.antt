@@ -1,5 +1,5 @@
--- `sbc_analyze::analysis::column_sum` meets its contract. The loop's invariant: the sum is that of the first n terms, and so within its bound.
--- Assumes nothing.
+-- `sbc_analyze::analysis::column_sum` meets its contract. The loop's invariant: the sum is that of the first n terms, and so within its
+-- bound. Assumes nothing.
 use Prim.Native.Nat.{◌-◌, ◌≤◌}
 use mathlib.Core.Path.{◌≡◌}
 use Rattle.laws.specs.Sums.{sum_z}

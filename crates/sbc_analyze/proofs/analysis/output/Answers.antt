@@ -1,5 +1,5 @@
--- `sbc_analyze::analysis::output` meets its contract: the two branches are the output's cases. The sum and the difference fit an i64, and an
--- i32 once they are divided.
+-- `sbc_analyze::analysis::output` meets its contract: the two branches are the output's cases. The sum and the difference fit an i64, and
+-- an i32 once they are divided.
 -- Assumes nothing.
 use Prim.Native.Nat.{◌-◌, ◌^◌}
 use mathlib.Core.Path.{◌∙◌, sym, ap}
@@ -57,12 +57,14 @@ pub bounds-odd-mirror : goal.bounds-odd-mirror
 bounds-odd-mirror c = omega (arith, bands-le c.requires.0)
 
 pub overflow_sub-even : goal.overflow_sub-even
-overflow_sub-even c = minus-fits w64 c.args.even.now c.args.odd.now c.requires.2 c.requires.3 (lit< tt) (c.args.subbands - 1 - c.args.i) (c.args.subbands - 1 - c.args.i)
+overflow_sub-even c = minus-fits w64 c.args.even.now c.args.odd.now c.requires.2 c.requires.3 (lit< tt) (c.args.subbands - 1 - c.args.i)
+    (c.args.subbands - 1 - c.args.i)
 
 pub shift_down-requires-2 : goal.shift_down-requires-2
 shift_down-requires-2 c = (
   lit< tt,
-  minus-shifted w64 c.args.even.now c.args.odd.now c.requires.2 c.requires.3 (lit< tt) (c.args.subbands - 1 - c.args.i) (c.args.subbands - 1 - c.args.i)
+  minus-shifted w64 c.args.even.now c.args.odd.now c.requires.2 c.requires.3 (lit< tt) (c.args.subbands - 1 - c.args.i)
+      (c.args.subbands - 1 - c.args.i)
       800000000 (lit≤ tt) (lit< tt),
 )
 

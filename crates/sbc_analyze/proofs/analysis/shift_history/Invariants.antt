@@ -10,7 +10,9 @@ use Rattle.sbc_analyze.specs.Fold.{spliced_at, moved_up}
 use Rattle.sbc_analyze.proofs.analysis.shift_history.Given as goal
 
 abbrev pub invariant-loop-k : goal.invariant-loop-k
-invariant-loop-k l = (l.k ≤ l.count) × (l.history ≡ build (length l.initial.history) (spliced_at (l.k + l.subbands) (λ i. get_or l.initial.history i (pos 0)) (moved_up l.subbands l.count l.initial.history)))
+invariant-loop-k l = (l.k ≤ l.count)
+    × (l.history ≡ build (length l.initial.history)
+    (spliced_at (l.k + l.subbands) (λ i. get_or l.initial.history i (pos 0)) (moved_up l.subbands l.count l.initial.history)))
 
 abbrev pub decreases-loop-k : goal.decreases-loop-k
 decreases-loop-k l = l.k

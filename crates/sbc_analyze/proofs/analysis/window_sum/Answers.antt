@@ -1,5 +1,5 @@
--- `sbc_analyze::analysis::window_sum` meets its contract. The loop's invariant: the index is that of term j, and the sum is that of the terms
--- before it, within its bound.
+-- `sbc_analyze::analysis::window_sum` meets its contract. The loop's invariant: the index is that of term j, and the sum is that of the
+-- terms before it, within its bound.
 -- Assumes nothing.
 use Prim.Native.Nat.{ℕ, ◌+◌, ◌*◌, ◌^◌, ◌≤◌, ◌<◌}
 use mathlib.Core.Path.{◌≡◌, ◌∙◌, sym, ap, ap₂, subst}
@@ -43,7 +43,8 @@ multiply_add-sum-requires c =
     let more : c.loop-index.j < 5 = window_more _ _ _ c.requires.0 c.loop-index.invariant.1 c.loop-index-test.true in
     let tap : mag (get_or c.args.taps.now c.loop-index.index (pos 0)) < 2 ^ 31 = omega arith in
     let sample : mag (get_or c.args.history.now c.loop-index.index (pos 0)) < 2 ^ 15 = omega arith in
-    let w = next c.args.subbands c.args.k c.loop-index.j c.loop-index.index c.args.history.now c.args.taps.now (to_z w64 c.loop-index.sum-bits)
+    let w = next c.args.subbands c.args.k c.loop-index.j c.loop-index.index c.args.history.now c.args.taps.now
+    (to_z w64 c.loop-index.sum-bits)
     c.widen.result c.requires.2 c.loop-index.invariant.1 c.loop-index.invariant.2 tap sample c.widen.type_inv c.widen.ensures in
     summed-fits w 5 400000000 (column-bound _ c.requires.0 c.requires.1) (omega (arith, more)) (lit< tt)
 
@@ -57,7 +58,8 @@ loop-index-preserved c =
     let more : c.loop-index.j < 5 = window_more _ _ _ c.requires.0 c.loop-index.invariant.1 c.loop-index-test.true in
     let tap : mag (get_or c.args.taps.now c.loop-index.index (pos 0)) < 2 ^ 31 = omega arith in
     let sample : mag (get_or c.args.history.now c.loop-index.index (pos 0)) < 2 ^ 15 = omega arith in
-    let w = next c.args.subbands c.args.k c.loop-index.j c.loop-index.index c.args.history.now c.args.taps.now (to_z w64 c.loop-index.sum-bits)
+    let w = next c.args.subbands c.args.k c.loop-index.j c.loop-index.index c.args.history.now c.args.taps.now
+    (to_z w64 c.loop-index.sum-bits)
     c.widen.result c.requires.2 c.loop-index.invariant.1 c.loop-index.invariant.2 tap sample c.widen.type_inv c.widen.ensures in (
       omega (arith, more),
       window-step _ _ _ c.requires.0 c.loop-index.invariant.1,

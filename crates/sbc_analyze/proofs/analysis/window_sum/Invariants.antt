@@ -1,5 +1,5 @@
--- `sbc_analyze::analysis::window_sum` meets its contract. The loop's invariant: the index is that of term j, and the sum is that of the terms
--- before it, within its bound.
+-- `sbc_analyze::analysis::window_sum` meets its contract. The loop's invariant: the index is that of term j, and the sum is that of the
+-- terms before it, within its bound.
 -- Assumes nothing.
 use Prim.Native.Nat.{◌+◌, ◌*◌, ◌-◌, ◌≤◌}
 use mathlib.Core.Path.{◌≡◌}
