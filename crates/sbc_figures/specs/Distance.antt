@@ -1,7 +1,6 @@
 -- How far two lists of samples, which are equally long, are apart.
 -- From document 01, "Reviewer's checklist": published vectors.
-use Rattle.std.specs.Prelude.{ℕ, List, eqb, length, get_or, ℤ, pos, nat_abs, ◌-ℤ◌}
-use Rattle.laws.specs.Choice.{if◌then◌else◌}
+use Rattle.std.specs.Prelude.{ℕ, List, eqb, length, get_or, ℤ, pos, nat_abs, ◌-ℤ◌, if◌then◌else◌}
 use Rattle.laws.specs.Lists.{total, greatest}
 
 -- the distance of two samples

@@ -11,7 +11,7 @@ use mir.Val.{SFits, to_z, of_z}
 use mir.Facts.{to_z-of_z}
 use borrow.Author.Rules.{rules}
 use borrow.Author.Tests.{eq-eqb, ne_eqb}
-use Rattle.laws.specs.Choice.{if◌then◌else◌}
+use Rattle.std.specs.Prelude.{if◌then◌else◌}
 use Rattle.sbc_figures.specs.Distance.{apart, unequal}
 use Rattle.sbc_figures.proofs.distance.unequal.Statement.{statement}
 use Rattle.sbc_figures.proofs.distance.unequal.Tie as tie
