@@ -209,9 +209,9 @@ pub record GainIs (k left x : ℕ) : Type 0 where
   pub none : k ≡ 0 → x ≡ 0
   pub full : 16 ≤ k → x ≡ 0
 
-pub gain-is : (k left : ℕ) → GainIs k left (round_gain k left)
+pub gain_is : (k left : ℕ) → GainIs k left (round_gain k left)
 unfolding round_gain grown
-gain-is k left =
+gain_is k left =
     let inner : ℕ = (if eqb k 1 && leb 2 left then 2 else 0) in
     let low-or-full : (k ≤ 1) ⊎ (16 ≤ k) → GainIs k left inner = λ s. by_both (GainIs k left) (eqb k 1) (leb 2 left) 2 0
     (λ q h. ⊎_elim (λ l. omega (arith, eqb-true k 1 q, leb-true 2 left h)) (λ l. omega (arith, eqb-true k 1 q, leb-true 2 left h)) s)
@@ -225,6 +225,24 @@ gain-is k left =
     omega arith)
     (λ l. low-or-full (inl (omega (arith, base-grown k, leb-false 2 (base_bits k) l))))
     (λ l. low-or-full (inr (omega (arith, base-grown k, leb-false (base_bits k) 15 l))))
+
+-- each case alone, as the tactics apply it
+pub gain_two : (k left : ℕ) → k ≡ 1 → 2 ≤ left → round_gain k left ≡ 2
+gain_two k left e h = (gain_is k left).at e h
+
+pub gain_short : (k left : ℕ) → k ≡ 1 → left ≤ 1 → round_gain k left ≡ 0
+gain_short k left e h = (gain_is k left).short e h
+
+pub gain_none : (k left : ℕ) → k ≡ 0 → round_gain k left ≡ 0
+gain_none k left e = (gain_is k left).none e
+
+pub gain_one : (k left : ℕ) → 2 ≤ k → k ≤ 15 → 0 < left → round_gain k left ≡ 1
+gain_one k left l h some = omega (arith, (gain_is k left).mid l h)
+
+pub gain_full : (k left : ℕ) → 16 ≤ k → round_gain k left ≡ 0
+gain_full k left h = (gain_is k left).full h
+
+pub ruleset gain_cases = (gains, gain_two, gain_short, gain_none, gain_one, gain_full)
 
 -- what is left after the round
 after : List ℕ → ℕ → ℕ

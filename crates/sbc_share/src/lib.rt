@@ -43,6 +43,7 @@ fn base_bits(k: u32) -> u32
 }
 
 // What a need that stands k above the level gains in the round.
+#[tactic(auto, using(crate::proofs::Sharing::gain_cases))]
 fn round_gain(k: u32, left: u32) -> u32
     ensures { (result ≡ round_gain k left) × (result ≤ 2) × (result ≤ left) }
 {

@@ -28,7 +28,8 @@ module _ (bitpool : ℕ) (left right : List ℤ) where
   when-shared Stereo e = refl
   when-shared JointStereo e = refl
 
-  when-one : (mode : SbcChannelMode) → channels_of mode ≡ 1 → table_row (share left bitpool) ∷ table_row [] ∷ [] ≡ table_by mode bitpool left right
+  when-one : (mode : SbcChannelMode) → channels_of mode ≡ 1
+      → table_row (share left bitpool) ∷ table_row [] ∷ [] ≡ table_by mode bitpool left right
   unfolding allocate_by
   when-one Mono e = refl
   when-one DualChannel e = absurd (omega arith)
@@ -47,21 +48,27 @@ pub returns-then-is_shared : goal.returns-then-is_shared
 unfolding allocation_table allocate
 returns-then-is_shared c =
     let p = c.args.parameters in
+    let left = channel_needs p (get_or c.args.scale_factors 0 []) in
+    let right = channel_needs p (get_or c.args.scale_factors 1 []) in
     c.allocate_channels.ensures
-    ∙ when-shared p.bitpool (channel_needs p (get_or c.args.scale_factors 0 [])) (channel_needs p (get_or c.args.scale_factors 1 [])) p.channel_mode (sym c.is_shared.ensures ∙ c.if-is_shared.true)
+    ∙ when-shared p.bitpool left right p.channel_mode (sym c.is_shared.ensures ∙ c.if-is_shared.true)
 
 pub returns-then-channels-eq1 : goal.returns-then-channels-eq1
 unfolding allocation_table allocate table_row
 returns-then-channels-eq1 c =
     let p = c.args.parameters in
+    let left = channel_needs p (get_or c.args.scale_factors 0 []) in
+    let right = channel_needs p (get_or c.args.scale_factors 1 []) in
     ap (λ (row : List ℕ). row ∷ table_row [] ∷ []) c.allocate_channel-first.ensures
-    ∙ when-one p.bitpool (channel_needs p (get_or c.args.scale_factors 0 [])) (channel_needs p (get_or c.args.scale_factors 1 [])) p.channel_mode (sym c.channels.ensures ∙ c.if-channels-eq1.true)
+    ∙ when-one p.bitpool left right p.channel_mode (sym c.channels.ensures ∙ c.if-channels-eq1.true)
 
 pub returns : goal.returns
 unfolding allocation_table allocate
 returns c =
     let p = c.args.parameters in
+    let left = channel_needs p (get_or c.args.scale_factors 0 []) in
+    let right = channel_needs p (get_or c.args.scale_factors 1 []) in
     ap₂ (λ (l r : List ℕ). l ∷ r ∷ []) c.allocate_channel-first.ensures c.allocate_channel.ensures
-    ∙ when-two p.bitpool (channel_needs p (get_or c.args.scale_factors 0 [])) (channel_needs p (get_or c.args.scale_factors 1 [])) p.channel_mode
+    ∙ when-two p.bitpool left right p.channel_mode
     (sym c.is_shared.ensures ∙ c.if-is_shared.false)
     (λ e. c.if-channels-eq1.false (c.channels.ensures ∙ e))

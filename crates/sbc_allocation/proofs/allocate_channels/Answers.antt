@@ -1,5 +1,5 @@
--- `sbc_allocation::allocate_channels` meets its contract: the needs lent to `share_bits` are those of both channels, left before right, and the rows
--- are taken apart of its answer in the same order.
+-- `sbc_allocation::allocate_channels` meets its contract: the needs lent to `share_bits` are those of both channels, left before right, and
+-- the rows are taken apart of its answer in the same order.
 -- Assumes nothing.
 use mathlib.Core.Path.{◌≡◌, refl, sym, ap, ap₂, ◌∙◌}
 use mathlib.Core.List.{List, [], ◌∷◌, ◌++◌, map}
@@ -16,8 +16,8 @@ use Rattle.sbc_share.specs.Raised.{lowered}
 use Rattle.sbc_allocation.specs.Allocate.{channel_needs, left_first, channel_row, rows_together, table_row}
 use Rattle.sbc_share.proofs.Sharing.{length-share}
 use Rattle.sbc_allocation.proofs.Rows.{length-left_first}
-use Rattle.sbc_allocation.proofs.Tables.{AtLeast, needs-none, share-none, take-at-least, left_first-at-least, take-left_first, map-left_first}
-use Rattle.sbc_allocation.proofs.Tables.{row-channel, left-entries, right-entries, both-entries}
+use Rattle.sbc_allocation.proofs.Tables.{AtLeast, needs-none, share-none, take-at-least, left_first-at-least, take-left_first}
+use Rattle.sbc_allocation.proofs.Tables.{map-left_first, row-channel, left-entries, right-entries, both-entries}
 use Rattle.sbc_allocation.proofs.allocate_channels.Goals as goal
 
 -- the code's needs of a channel: as many as it uses are the channel's, 32 higher

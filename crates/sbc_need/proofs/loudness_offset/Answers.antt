@@ -14,7 +14,9 @@ returns-then-subband-lt4 c = rw (eq-eqb _ _ c.if-subbands-eq4.true) (read_back w
 
 pub returns-then-subbands-eq4 : goal.returns-then-subbands-eq4
 unfolding loudness_offsets
-returns-then-subbands-eq4 c = let a = c.args in rw (eq-eqb _ _ c.if-subbands-eq4.true) (sym (past4 a.frequency a.subband c.if-subband-lt4.false))
+returns-then-subbands-eq4 c =
+    let a = c.args in
+    rw (eq-eqb _ _ c.if-subbands-eq4.true) (sym (past4 a.frequency a.subband c.if-subband-lt4.false))
 
 pub returns-then-subband-lt8 : goal.returns-then-subband-lt8
 unfolding loudness_offsets

@@ -1,4 +1,5 @@
--- `sbc_quantizer::raised` meets its contract: both sums fit an i64, so that they are read back from their bits, and the tests are those of `held_between`.
+-- `sbc_quantizer::raised` meets its contract: both sums fit an i64, so that they are read back from their bits, and the tests
+-- are those of `held_between`.
 -- Assumes nothing.
 use mathlib.Core.Path.{◌≡◌, sym, ap, ap₂, ◌∙◌}
 use Prim.Native.Nat.{ℕ, ◌+◌, ◌^◌, ◌<◌}

@@ -38,7 +38,8 @@ factor_is m h k =
     scale-factor-is m (19 - count_leading_zeros 32 m) (omega (arith, d.small)) (λ _. rw (← e) d.reached) (λ _. rw (← n) d.above)
 
 pub returns-then-maximum-ge134217728 : goal.returns-then-maximum-ge134217728
-returns-then-maximum-ge134217728 c = sym (scale-factor-is c.args.maximum 15 (omega arith) (λ _. c.if-maximum-ge134217728.true) (λ l. absurd (omega arith)))
+returns-then-maximum-ge134217728 c =
+    sym (scale-factor-is c.args.maximum 15 (omega arith) (λ _. c.if-maximum-ge134217728.true) (λ l. absurd (omega arith)))
 
 pub overflow_sub-result : goal.overflow_sub-result
 overflow_sub-result c =

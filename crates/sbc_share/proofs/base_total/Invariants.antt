@@ -8,7 +8,8 @@ use Rattle.sbc_share.proofs.Loops.{rest}
 use Rattle.sbc_share.proofs.base_total.Given as goal
 
 abbrev pub invariant-loop-i : goal.invariant-loop-i
-invariant-loop-i l = (l.i ≤ length l.needs) × (l.bits + rest base_bits l.level l.needs l.i ≡ rest base_bits l.level l.needs 0) × (l.bits ≤ 16 * l.i)
+invariant-loop-i l =
+    (l.i ≤ length l.needs) × (l.bits + rest base_bits l.level l.needs l.i ≡ rest base_bits l.level l.needs 0) × (l.bits ≤ 16 * l.i)
 
 abbrev pub decreases-loop-i : goal.decreases-loop-i
 decreases-loop-i l = length l.needs - l.i

@@ -1,10 +1,11 @@
 -- `sbc_share::last_bit` meets its contract. The invariant: every one passed has 16.
 -- Assumes nothing.
-use mathlib.Core.Path.{◌≡◌, sym, ap, ◌∙◌}
+use mathlib.Core.Path.{◌≡◌, refl, sym, ap, ◌∙◌}
 use mathlib.Core.List.{List, ◌++◌}
 use Prim.Native.Nat.{ℕ, ◌+◌, ◌≤◌, ◌<◌}
 use native.Mathlib.Omega.{arith}
 use borrow.Author.Rules.{rules}
+use borrow.Author.Count.{below_more}
 use lib.ListN.{length, get_or, take, drop, set, take-append-drop}
 use lib.Seq.{get_or-take, set-append_left, length-take-le}
 use Rattle.sbc_share.specs.Share.{last_bit}
@@ -33,12 +34,26 @@ module _ (xs : List ℕ) (n : ℕ) (h : n ≤ length xs) where
       let same = last_none (take n xs) (λ j k. omega (arith, at j (omega arith), full j (omega arith))) in
       sym (take-append-drop n xs) ∙ ap (λ (t : List ℕ). t ++ drop n xs) (sym same)
 
-pub returns-then-out-first-lt16 : goal.returns-then-out-first-lt16
-returns-then-out-first-lt16 c =
+pub loop-first-init : goal.loop-first-init
+loop-first-init c =
+    let long : c.args.n ≤ length c.args.bits = search rules in (
+      omega arith,
+      refl,
+      λ j h. absurd (omega arith),
+      λ some room. found c.args.bits c.args.n long 0 some (λ j h. absurd (omega arith)) room,
+    )
+
+pub loop-first-preserved : goal.loop-first-preserved
+loop-first-preserved c =
     let l = c.loop-first in
     let long : c.args.n ≤ length c.args.bits = search rules in
-    rw l.invariant.1
-    (found c.args.bits c.args.n long l.first (omega arith) l.invariant.2 (rw l.invariant.1 at c.if-out-first-lt16.true))
+    let here : 16 ≤ get_or l.out l.first 0 = omega arith in
+    let full = below_more (λ j. 16 ≤ get_or c.args.bits j 0) l.first l.invariant.2 (rw l.invariant.1 at here) in (
+      omega arith,
+      l.invariant.1,
+      full,
+      λ some room. rw l.invariant.1 (found c.args.bits c.args.n long (l.first + 1) some full (rw l.invariant.1 at room)),
+    )
 
 pub returns : goal.returns
 returns c =

@@ -7,7 +7,8 @@ use Rattle.sbc_share.specs.Raised.{least_raised}
 use Rattle.sbc_share.proofs.least_need.Given as goal
 
 abbrev pub invariant-loop-i : goal.invariant-loop-i
-invariant-loop-i l = (l.i ≤ length l.needs) × (min l.low (least_raised l.top (drop l.i l.needs)) ≡ least_raised l.top l.needs) × (l.low ≤ l.top)
+invariant-loop-i l =
+    (l.i ≤ length l.needs) × (min l.low (least_raised l.top (drop l.i l.needs)) ≡ least_raised l.top l.needs) × (l.low ≤ l.top)
 
 abbrev pub decreases-loop-i : goal.decreases-loop-i
 decreases-loop-i l = length l.needs - l.i

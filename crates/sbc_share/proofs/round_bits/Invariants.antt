@@ -1,5 +1,5 @@
--- `sbc_share::round_bits` meets its contract. The invariant: the bits written and the round of the needs to come are the whole round, and zeros
--- stand behind.
+-- `sbc_share::round_bits` meets its contract. The invariant: the bits written and the round of the needs to come are the whole round, and
+-- zeros stand behind.
 -- Assumes nothing.
 use mathlib.Core.Path.{◌≡◌}
 use mathlib.Core.List.{◌++◌}
@@ -11,7 +11,8 @@ use Rattle.sbc_share.proofs.round_bits.Given as goal
 
 abbrev pub invariant-loop-i : goal.invariant-loop-i
 invariant-loop-i l =
-    (l.i ≤ length l.needs) × (take l.i l.bits ++ round_bits (excesses l.level (drop l.i l.needs)) l.rest ≡ round_bits (excesses l.level l.needs) l.left)
+    (l.i ≤ length l.needs)
+    × (take l.i l.bits ++ round_bits (excesses l.level (drop l.i l.needs)) l.rest ≡ round_bits (excesses l.level l.needs) l.left)
     × (drop l.i l.bits ≡ replicate (16 - l.i) 0) × (length l.bits ≡ 16)
 
 abbrev pub decreases-loop-i : goal.decreases-loop-i

@@ -13,8 +13,8 @@ use Rattle.laws.proofs.Abs.{sfits-abs}
 use Rattle.sbc_quantizer.specs.declared.Dequantizer.{Dequantizer}
 use Rattle.sbc_quantizer.specs.Quantizing.{reconstruct}
 use Rattle.sbc_quantizer.specs.Dequantizing.{Dequantizes}
-use Rattle.sbc_quantizer.proofs.Steps.{steps_by, value-small, offset-small, multiplier-small, tail-small, steps-small, product_small, value-is}
-use Rattle.sbc_quantizer.proofs.Steps.{reconstruct-bound}
+use Rattle.sbc_quantizer.proofs.Steps.{steps_by, value-small, offset-small, multiplier-small, tail-small, steps-small}
+use Rattle.sbc_quantizer.proofs.Steps.{product_small, value-is, reconstruct-bound}
 use Rattle.sbc_quantizer.proofs.Dequantizer.apply.Goals as goal
 
 -- the steps and the product, as the code reads them
@@ -34,23 +34,27 @@ module _ {d : Dequantizer} {q f b : ℕ} (w : Dequantizes d q f b) where
   product_ok : SFits w32 (pos d.multiplier *ℤ steps_by d q)
   product_ok = sfits-abs (omega (arith, product_small w))
 
-  -- the steps, read back from their bits
-  steps_back : to_z w32 (of_z w32 (to_z w32 q -ℤ to_z w32 d.offset)) ≡ steps_by d q
+  -- the steps, the product and the sum with the steps shifted, as the code has them: each read back from its bits
+  abbrev steps_read : ℤ
+  steps_read = to_z w32 (of_z w32 (to_z w32 q -ℤ to_z w32 d.offset))
+
+  abbrev product_read : ℤ
+  product_read = to_z w32 (of_z w32 (to_z w32 d.multiplier *ℤ steps_read))
+
+  steps_back : steps_read ≡ steps_by d q
   steps_back = rw read_steps (to_z-of_z steps_ok)
 
-  -- the product, read back from its bits
-  product_is : to_z w32 d.multiplier *ℤ to_z w32 (of_z w32 (to_z w32 q -ℤ to_z w32 d.offset)) ≡ pos d.multiplier *ℤ steps_by d q
+  product_is : to_z w32 d.multiplier *ℤ steps_read ≡ pos d.multiplier *ℤ steps_by d q
   product_is = ap₂ (λ a b. a *ℤ b) read_multiplier steps_back
 
-  product_back : to_z w32 (of_z w32 (to_z w32 d.multiplier *ℤ to_z w32 (of_z w32 (to_z w32 q -ℤ to_z w32 d.offset)))) ≡ pos d.multiplier *ℤ steps_by d q
+  product_back : product_read ≡ pos d.multiplier *ℤ steps_by d q
   product_back = rw product_is (to_z-of_z product_ok)
 
-  -- the sum with the steps shifted
-  module _ {r : ℤ} (hr : SFits w32 r) (e : r ≡ quot_z (to_z w32 (of_z w32 (to_z w32 q -ℤ to_z w32 d.offset))) (pos (2 ^ d.tail))) where
-    sum_is : to_z w32 (of_z w32 (to_z w32 d.multiplier *ℤ to_z w32 (of_z w32 (to_z w32 q -ℤ to_z w32 d.offset)))) +ℤ to_z w32 (of_z w32 r) ≡ reconstruct q f b
+  module _ {r : ℤ} (hr : SFits w32 r) (e : r ≡ quot_z steps_read (pos (2 ^ d.tail))) where
+    sum_is : product_read +ℤ to_z w32 (of_z w32 r) ≡ reconstruct q f b
     sum_is = ap₂ (λ a b. a +ℤ b) product_back (to_z-of_z hr ∙ (rw steps_back at e)) ∙ value-is w
 
-    sum_ok : SFits w32 (to_z w32 (of_z w32 (to_z w32 d.multiplier *ℤ to_z w32 (of_z w32 (to_z w32 q -ℤ to_z w32 d.offset)))) +ℤ to_z w32 (of_z w32 r))
+    sum_ok : SFits w32 (product_read +ℤ to_z w32 (of_z w32 r))
     sum_ok = rw sum_is (sfits-abs (omega (arith, reconstruct-bound _ _ _ w.value w.factor)))
 
 pub overflow_cast-steps-2 : goal.overflow_cast-steps-2
