@@ -1,0 +1,15 @@
+-- The loop of `distance::farthest`: the top is the greatest distance of the first i samples.
+use Prim.Native.Nat.{ℕ}
+use mathlib.Core.Path.{◌≡◌}
+use mathlib.Core.List.{List}
+use lib.ListN.{get_or}
+use lib.IntN.{ℤ, pos}
+use Rattle.laws.specs.Lists.{greatest}
+use Rattle.sbc_figures.specs.Distance.{apart}
+use Rattle.sbc_figures.proofs.distance.farthest.Given as goal
+
+abbrev pub apart_at : List ℤ → List ℤ → ℕ → ℕ
+apart_at xs ys i = apart (get_or xs i (pos 0)) (get_or ys i (pos 0))
+
+abbrev pub invariant-loop-i : goal.invariant-loop-i
+invariant-loop-i l = l.top ≡ greatest l.i (apart_at l.ours l.theirs)
