@@ -1,5 +1,6 @@
 // The subband samples of a frame's channels to PCM, block by block through each channel's synthesis filterbank.
 #![tactic(auto)]
+
 ghost use Rattle.std.specs.Prelude.{◌≡◌, true, [], ◌∷◌, ◌++◌, ℕ, ◌+◌, ◌*◌, ◌^◌, ◌≤◌, ◌<◌, length, get_or, drop, pos, nat_abs};
 ghost use Rattle.laws.specs.Lists.{build};
 ghost use Rattle.sbc_filterbank.specs.Subbands.{Bands};
@@ -54,8 +55,8 @@ fn play_block(
     channels: usize,
 )
     requires { (length values.old ≡ 160) × (Bands subbands) × (block < 16) × (channel < channels) × (channels ≤ 2) × ((block + 1) * subbands * channels ≤ length output.old) × ((s : ℕ) → s < 8 → nat_abs (sample_in samples.now block s) ≤ 2 ^ 28) }
-    ensures values { values.exit.now ≡ (synthesized subbands (record { values = values.entry.now; newest = newest }) (build subbands (λ s. sample_in samples.now block s))).values }
-    ensures output { output.new ≡ placed channels channel (block * subbands) subbands (λ j. get_or (synthesize subbands (record { values = values.entry.now; newest = newest }) (build subbands (λ s. sample_in samples.now block s))) j (pos 0)) output.old }
+    ensures values { values.new ≡ (synthesized subbands (record { values = values.old; newest = newest }) (build subbands (λ s. sample_in samples.now block s))).values }
+    ensures output { output.new ≡ placed channels channel (block * subbands) subbands (λ j. get_or (synthesize subbands (record { values = values.old; newest = newest }) (build subbands (λ s. sample_in samples.now block s))) j (pos 0)) output.old }
 {
     let input = block_of(samples, block);
     if subbands == 4 {
