@@ -467,15 +467,14 @@ module _ {p : SbcParameters} {frame bytes left right : List ℕ} {table : List (
       difference-in =
           difference ∙ (λ i. with_flagged p.blocks (flag-row i) (λ b s. sample_in (left_in i) b s -ℤ sample_in (right-in i) b s) (right-in i))
 
-      pub frame-in : (l ≡ channel_array p (unpack p frame) 0)
-          × ((r ≡ channel_array p (unpack p frame) 1) × ((Small p.blocks (2 ^ 28) l) × (Small p.blocks (2 ^ 28) r)))
-      frame-in = (
-        sum-in ∙ sum_is p g.good frame g.long,
-        (
-          difference-in ∙ difference-is p g.good frame g.long,
-          (
-            subst (Small p.blocks (2 ^ 28)) (sym sum-in) (sum-small p g.good frame g.long first_small second-small),
-            subst (Small p.blocks (2 ^ 28)) (sym difference-in) (difference-small p g.good frame g.long first_small second-small),
-          ),
-        ),
+      pub left-frame : l ≡ channel_array p (unpack p frame) 0
+      left-frame = sum-in ∙ sum_is p g.good frame g.long
+
+      pub right-frame : r ≡ channel_array p (unpack p frame) 1
+      right-frame = difference-in ∙ difference-is p g.good frame g.long
+
+      pub frame-small : (Small p.blocks (2 ^ 28) l) × (Small p.blocks (2 ^ 28) r)
+      frame-small = (
+        subst (Small p.blocks (2 ^ 28)) (sym sum-in) (sum-small p g.good frame g.long first_small second-small),
+        subst (Small p.blocks (2 ^ 28)) (sym difference-in) (difference-small p g.good frame g.long first_small second-small),
       )

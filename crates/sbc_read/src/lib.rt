@@ -1,5 +1,6 @@
 // A frame's bytes to the subband samples of its channels, in an array of 128 for each channel, eight places a block.
 #![tactic(auto)]
+
 ghost use Rattle.std.specs.Prelude.{◌≡◌, true, ◌++◌, ℕ, ◌+◌, ◌-◌, ◌*◌, ◌/◌, ◌^◌, ◌≤◌, ◌<◌, length, take, drop, replicate, nat_abs, ◌+ℤ◌, ◌-ℤ◌};
 ghost use Rattle.laws.specs.Bits.{number_of, bits_of_bytes};
 ghost use Rattle.laws.specs.Lists.{total};
