@@ -1,5 +1,6 @@
 // The bits of a frame's body, written one field after the other.
 #![tactic(auto)]
+
 ghost use Rattle.std.specs.Prelude.{◌≡◌, ◌++◌, ℕ, ◌+◌, ◌*◌, ◌^◌, ◌≤◌, ◌<◌, length, get_or, drop};
 ghost use Rattle.laws.specs.Bits.{bits_of};
 ghost use Rattle.laws.specs.Lists.{total};
