@@ -164,14 +164,16 @@ module _ (p : SbcParameters) (histories : List Synthesis) (left right : List ℤ
     Given c new now next =
         (new ≡ synthesis_after p.subbands (get_or histories c d) (blocks_of c))
         × (next
-        ≡ placed C c 0 (p.blocks * p.subbands) (λ j. get_or (synthesize_blocks p.subbands (get_or histories c d) (blocks_of c)) j (pos 0)) now)
+        ≡ placed C c 0 (p.blocks * p.subbands)
+        (λ j. get_or (synthesize_blocks p.subbands (get_or histories c d) (blocks_of c)) j (pos 0)) now)
 
     module _ (c : ℕ) (there : c < 2) where
       history : get_or histories c d ≡ get_or histories c no_synthesis
       history = get_d_any histories c d no_synthesis (omega arith)
 
       -- one channel more put in
-      channel-woven : (new : Synthesis) (xs now next : List ℤ) → now ≡ woven C (samples_per_channel p) channel_of xs c → Given c new now next
+      channel-woven : (new : Synthesis) (xs now next : List ℤ) → now ≡ woven C (samples_per_channel p) channel_of xs c
+          → Given c new now next
           → next ≡ woven C (samples_per_channel p) channel_of xs (c + 1)
       unfolding woven samples_per_channel
       channel-woven new xs now next e (q, r) =
@@ -181,20 +183,23 @@ module _ (p : SbcParameters) (histories : List Synthesis) (left right : List ℤ
           placed C c 0 (p.blocks * p.subbands) (λ j. get_or (synthesize_blocks p.subbands h (blocks_of c)) j (pos 0)) zs) history e)
 
       -- a history after its channel's blocks, and one that stays
-      history-played : (new : Synthesis) (now next : List ℤ) → c < channels p → Given c new now next → new ≡ history_after p histories left right c
+      history-played : (new : Synthesis) (now next : List ℤ) → c < channels p → Given c new now next
+          → new ≡ history_after p histories left right c
       history-played new now next lt (q, r) =
           rw (lt-ltb c (channels p) lt) (q ∙ ap (λ (h : Synthesis). synthesis_after p.subbands h (blocks_of c)) history)
 
       history-kept : channels p ≤ c → get_or histories c d ≡ history_after p histories left right c
       history-kept le = rw (le-ltb c (channels p) le) history
 
-    histories-are : (first second : Synthesis) → first ≡ history_after p histories left right 0 → second ≡ history_after p histories left right 1
+    histories-are : (first second : Synthesis) → first ≡ history_after p histories left right 0
+        → second ≡ history_after p histories left right 1
         → first ∷ second ∷ [] ≡ histories_after p histories left right
     unfolding histories_after build collect
     histories-are first second e q = ap₂ (λ (a b : Synthesis). a ∷ b ∷ []) e q
 
     -- a frame of one channel, and of two
-    module _ (xs one : List ℤ) (first : Synthesis) (e : C ≡ channels p) (fits : frame_samples p ≤ length xs) (g : Given 0 first xs one) where
+    module _ (xs one : List ℤ) (first : Synthesis) (e : C ≡ channels p) (fits : frame_samples p ≤ length xs)
+        (g : Given 0 first xs one) where
       first-woven : one ≡ woven C (samples_per_channel p) channel_of xs 1
       first-woven = channel-woven 0 (omega arith) first xs xs one (woven-none C (samples_per_channel p) channel_of xs) g
 

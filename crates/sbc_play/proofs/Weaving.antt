@@ -5,7 +5,8 @@ use mathlib.Core.Path.{◌≡◌, refl, sym, ap, ap₂, ◌∙◌}
 use mathlib.Core.Logic.{◌≢◌}
 use mathlib.Core.Bool.{Bool, true, false}
 use mathlib.Core.List.{List, ◌++◌}
-use native.Mathlib.Nat.{le_refl, not-suc-le-zero, add-zero, zero-add, add-suc, mul-add-mod_self_right, mod-eq_of_lt, mod-lt, div-add-mod', div-lt_iff_lt-mul}
+use native.Mathlib.Nat.{le_refl, not-suc-le-zero, add-zero, zero-add, add-suc, mul-add-mod_self_right, mod-eq_of_lt, mod-lt}
+use native.Mathlib.Nat.{div-add-mod', div-lt_iff_lt-mul}
 use native.Mathlib.Decide.{ℕ_discrete}
 use native.Mathlib.Numerals.{add-one}
 use native.Mathlib.Omega.{arith}
@@ -51,13 +52,15 @@ module _ (C c from : ℕ) (f : ℕ → ℤ) (xs : List ℤ) where
   unfolding placed
   placed-other zero i d h = refl
   placed-other (suc n) i d h =
-      get_or-set_other (placed C c from n f xs) ((from + n) * C + c) i (f n) d (h n (le_refl (suc n))) ∙ placed-other n i d (λ k p. h k (omega arith))
+      get_or-set_other (placed C c from n f xs) ((from + n) * C + c) i (f n) d (h n (le_refl (suc n)))
+      ∙ placed-other n i d (λ k p. h k (omega arith))
 
   -- and theirs hold the samples
   placed_at : (n k : ℕ) (d : ℤ) → k < n → c < C → (from + n) * C ≤ length xs → get_or (placed C c from n f xs) ((from + k) * C + c) d ≡ f k
   unfolding placed
   placed_at zero k d h p l = absurd (not-suc-le-zero h)
-  placed_at (suc n) k d h p l = go (ℕ_discrete k n) (λ q. placed_at n k d q p (omega (arith, place-before C from n (suc n) (le_refl (suc n)))))
+  placed_at (suc n) k d h p l =
+      go (ℕ_discrete k n) (λ q. placed_at n k d q p (omega (arith, place-before C from n (suc n) (le_refl (suc n)))))
     where
       go : Dec (k ≡ n) → (k < n → get_or (placed C c from n f xs) ((from + k) * C + c) d ≡ f k)
           → get_or (set (placed C c from n f xs) ((from + n) * C + c) (f n)) ((from + k) * C + c) d ≡ f k
@@ -67,7 +70,8 @@ module _ (C c from : ℕ) (f : ℕ → ℤ) (xs : List ℤ) where
           (omega (arith, length-placed n, place-before C from n (suc n) (le_refl (suc n)))))
       go (no ne) r =
           let lt : k < n = omega arith in
-          get_or-set_other (placed C c from n f xs) ((from + n) * C + c) ((from + k) * C + c) (f n) d (λ e. omega (arith, place-before C from k n lt))
+          get_or-set_other (placed C c from n f xs) ((from + n) * C + c) ((from + k) * C + c) (f n) d
+          (λ e. omega (arith, place-before C from k n lt))
           ∙ r lt
 
 -- a store of the next sample, as the machine reads it back
@@ -77,11 +81,13 @@ placed-next w C c from n f xs ys v s e q =
     ap₂ (λ (zs : List ℤ) (x : ℤ). set zs ((from + n) * C + c) x) e (to_z-of_z s ∙ q) ∙ placed-more C c from f xs n
 
 -- equal samples
-pub placed-ext : (C c from n : ℕ) (f g : ℕ → ℤ) (xs : List ℤ) → ((k : ℕ) → k < n → f k ≡ g k) → placed C c from n f xs ≡ placed C c from n g xs
+pub placed-ext : (C c from n : ℕ) (f g : ℕ → ℤ) (xs : List ℤ) → ((k : ℕ) → k < n → f k ≡ g k)
+    → placed C c from n f xs ≡ placed C c from n g xs
 unfolding placed
 placed-ext C c from zero f g xs h = refl
 placed-ext C c from (suc n) f g xs h =
-    ap₂ (λ (ys : List ℤ) (z : ℤ). set ys ((from + n) * C + c) z) (placed-ext C c from n f g xs (λ k p. h k (omega arith))) (h n (le_refl (suc n)))
+    ap₂ (λ (ys : List ℤ) (z : ℤ). set ys ((from + n) * C + c) z) (placed-ext C c from n f g xs (λ k p. h k (omega arith)))
+    (h n (le_refl (suc n)))
 
 -- samples behind samples
 pub placed-behind : (C c n m : ℕ) (f g : ℕ → ℤ) (xs : List ℤ) → ((k : ℕ) → k < m → g k ≡ f (n + k))
@@ -89,7 +95,8 @@ pub placed-behind : (C c n m : ℕ) (f g : ℕ → ℤ) (xs : List ℤ) → ((k 
 unfolding placed
 placed-behind C c n zero f g xs h = rw add-zero
 placed-behind C c n (suc m) f g xs h =
-    ap₂ (λ (ys : List ℤ) (z : ℤ). set ys ((n + m) * C + c) z) (placed-behind C c n m f g xs (λ k p. h k (omega arith))) (h m (le_refl (suc m)))
+    ap₂ (λ (ys : List ℤ) (z : ℤ). set ys ((n + m) * C + c) z) (placed-behind C c n m f g xs (λ k p. h k (omega arith)))
+    (h m (le_refl (suc m)))
     ∙ rw (add-suc, zero-add)
 
 -- ---- a list of C channels with the first m of them put in, n samples each
@@ -108,7 +115,8 @@ module _ (C n : ℕ) (channel : ℕ → List ℤ) (xs : List ℤ) where
   length-woven (suc m) = length-placed C m 0 (λ j. get_or (channel m) j (pos 0)) (woven C n channel xs m) n ∙ length-woven m
 
   -- sample k of channel r stands at k C + r
-  woven-at : (m k r : ℕ) → r < m → m ≤ C → k < n → n * C ≤ length xs → get_or (woven C n channel xs m) (k * C + r) (pos 0) ≡ get_or (channel r) k (pos 0)
+  woven-at : (m k r : ℕ) → r < m → m ≤ C → k < n → n * C ≤ length xs
+      → get_or (woven C n channel xs m) (k * C + r) (pos 0) ≡ get_or (channel r) k (pos 0)
   unfolding woven
   woven-at zero k r h p q l = absurd (not-suc-le-zero h)
   woven-at (suc m) k r h p q l = go (ℕ_discrete r m) (λ lt. woven-at m k r lt (omega arith) q l)
@@ -134,7 +142,8 @@ module _ (C n : ℕ) (channel : ℕ → List ℤ) (xs : List ℤ) where
   woven-behind zero i p h = refl
   woven-behind (suc m) i p h =
       let e : (0 + n) * C ≡ n * C = rw zero-add in
-      placed-other C m 0 (λ j. get_or (channel m) j (pos 0)) (woven C n channel xs m) n i (pos 0) (λ k lt q. omega (arith, place-before C 0 k n lt))
+      placed-other C m 0 (λ j. get_or (channel m) j (pos 0)) (woven C n channel xs m) n i (pos 0)
+      (λ k lt q. omega (arith, place-before C 0 k n lt))
       ∙ woven-behind m i (omega arith) h
 
 -- ---- all channels of a frame put in are the frame, and what stood behind it stays

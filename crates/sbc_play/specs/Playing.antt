@@ -1,5 +1,6 @@
--- How the code of the decoder plays a frame, for the contracts of its inner functions alone: the subband samples of a channel stand in an array
--- of 128, eight places a block, and a channel's PCM goes into its places of the output block by block. No call of a user's cites this.
+-- How the code of the decoder plays a frame, for the contracts of its inner functions alone: the subband samples of a channel stand in
+-- an array of 128, eight places a block, and a channel's PCM goes into its places of the output block by block. No call of a user's cites
+-- this.
 -- From document 01, "Filterbanks" and "Parameters".
 use Rattle.std.specs.Prelude.{ℕ, zero, suc, ◌+◌, ◌*◌, List, [], ◌∷◌, ltb, get_or, set, ℤ, if◌then◌else◌}
 use Rattle.laws.specs.Lists.{build}
@@ -22,7 +23,9 @@ placed C c from (suc n) f xs = set (placed C c from n f xs) ((from + n) * C + c)
 abbrev pub history_after : SbcParameters → List Synthesis → List ℤ → List ℤ → ℕ → Synthesis
 history_after p histories left right c =
     let history = get_or histories c no_synthesis in
-    if ltb c (channels p) then synthesis_after p.subbands history (blocks_in p.blocks p.subbands (get_or (left ∷ right ∷ []) c [])) else history
+    if ltb c (channels p)
+    then synthesis_after p.subbands history (blocks_in p.blocks p.subbands (get_or (left ∷ right ∷ []) c []))
+    else history
 
 -- both channels' histories
 unfoldable pub histories_after : SbcParameters → List Synthesis → List ℤ → List ℤ → List Synthesis

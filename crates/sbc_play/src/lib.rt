@@ -54,9 +54,16 @@ fn play_block(
     channel: usize,
     channels: usize,
 )
-    requires { (length values.old ≡ 160) × (Bands subbands) × (block < 16) × (channel < channels) × (channels ≤ 2) × ((block + 1) * subbands * channels ≤ length output.old) × ((s : ℕ) → s < 8 → nat_abs (sample_in samples.now block s) ≤ 2 ^ 28) }
-    ensures values { values.new ≡ (synthesized subbands (record { values = values.old; newest = newest }) (build subbands (λ s. sample_in samples.now block s))).values }
-    ensures output { output.new ≡ placed channels channel (block * subbands) subbands (λ j. get_or (synthesize subbands (record { values = values.old; newest = newest }) (build subbands (λ s. sample_in samples.now block s))) j (pos 0)) output.old }
+    requires { (length values.old ≡ 160) × (Bands subbands) × (block < 16) × (channel < channels) × (channels ≤ 2)
+        × ((block + 1) * subbands * channels ≤ length output.old)
+        × ((s : ℕ) → s < 8 → nat_abs (sample_in samples.now block s) ≤ 2 ^ 28) }
+    ensures values { values.new
+        ≡ (synthesized subbands (record { values = values.old; newest = newest })
+        (build subbands (λ s. sample_in samples.now block s))).values }
+    ensures output { output.new
+        ≡ placed channels channel (block * subbands) subbands
+        (λ j. get_or (synthesize subbands (record { values = values.old; newest = newest })
+        (build subbands (λ s. sample_in samples.now block s))) j (pos 0)) output.old }
 {
     let input = block_of(samples, block);
     if subbands == 4 {
@@ -78,9 +85,12 @@ fn play_channel(
     channel: usize,
     channels: usize,
 ) -> Synthesis
-    requires { (Bands subbands) × (blocks ≤ 16) × (channel < channels) × (channels ≤ 2) × (blocks * subbands * channels ≤ length output.old) × (Small blocks (2 ^ 28) samples.now) }
+    requires { (Bands subbands) × (blocks ≤ 16) × (channel < channels) × (channels ≤ 2)
+        × (blocks * subbands * channels ≤ length output.old) × (Small blocks (2 ^ 28) samples.now) }
     ensures history { result ≡ synthesis_after subbands history (blocks_in blocks subbands samples.now) }
-    ensures output { output.new ≡ placed channels channel 0 (blocks * subbands) (λ j. get_or (synthesize_blocks subbands history (blocks_in blocks subbands samples.now)) j (pos 0)) output.old }
+    ensures output { output.new
+        ≡ placed channels channel 0 (blocks * subbands)
+        (λ j. get_or (synthesize_blocks subbands history (blocks_in blocks subbands samples.now)) j (pos 0)) output.old }
 {
     let mut values = history.values;
     let mut newest = history.newest;
@@ -108,9 +118,13 @@ pub fn play_frame(
     right: &[i32; 128],
     output: &mut [i16],
 ) -> [Synthesis; 2]
-    requires { (accepted parameters ≡ true) × (Small parameters.blocks (2 ^ 28) left.now) × (Small parameters.blocks (2 ^ 28) right.now) × (frame_samples parameters ≤ length output.old) }
+    requires { (accepted parameters ≡ true) × (Small parameters.blocks (2 ^ 28) left.now) × (Small parameters.blocks (2 ^ 28) right.now)
+        × (frame_samples parameters ≤ length output.old) }
     ensures histories { result ≡ histories_after parameters histories left.now right.now }
-    ensures output { output.new ≡ interleave parameters (λ c. synthesize_blocks parameters.subbands (get_or histories c no_synthesis) (blocks_in parameters.blocks parameters.subbands (get_or (left.now ∷ right.now ∷ []) c []))) ++ drop (frame_samples parameters) output.old }
+    ensures output { output.new
+        ≡ interleave parameters (λ c. synthesize_blocks parameters.subbands (get_or histories c no_synthesis)
+        (blocks_in parameters.blocks parameters.subbands (get_or (left.now ∷ right.now ∷ []) c [])))
+        ++ drop (frame_samples parameters) output.old }
 {
     let blocks = parameters.blocks as usize;
     let subbands = parameters.subbands as usize;

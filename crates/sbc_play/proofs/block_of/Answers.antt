@@ -2,11 +2,7 @@
 -- Assumes nothing.
 use native.Mathlib.Omega.{arith}
 use mathlib.Core.Path.{refl}
-use Prim.Native.Nat.{◌+◌, ◌*◌}
-use lib.ListN.{get_or}
-use lib.IntN.{pos}
 use mir.Syntax.{w32}
-use mir.Val.{SFits}
 use borrow.Author.Rules.{rules}
 use Rattle.laws.specs.Lists.{collect, build}
 use Rattle.laws.proofs.Arrays.{fill_none, filled, stored}
@@ -18,9 +14,10 @@ loop-s-init c = (omega arith, fill_none 8 _)
 
 pub loop-s-preserved : goal.loop-s-preserved
 loop-s-preserved c =
-    let fits : SFits w32 (get_or c.args.samples.now (8 * c.args.block + c.loop-s.s) (pos 0)) = search rules in
-    (omega arith, stored w32 8 _ _ _ _ fits (omega arith) c.loop-s.invariant.1 refl)
+    (omega arith, stored w32 8 _ _ _ _ (search rules) (omega arith) c.loop-s.invariant.1 refl)
 
 pub returns : goal.returns
 unfolding collect build
-returns c = filled 8 c.loop-s.s 8 (λ k. sample_in c.args.samples.now c.args.block k) c.loop-s.input (omega arith) (omega arith) c.loop-s.invariant.1
+returns c =
+    filled 8 c.loop-s.s 8 (λ k. sample_in c.args.samples.now c.args.block k) c.loop-s.input (omega arith) (omega arith)
+    c.loop-s.invariant.1

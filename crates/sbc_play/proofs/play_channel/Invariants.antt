@@ -20,8 +20,11 @@ abbrev pub invariant-loop-block : goal.invariant-loop-block
 invariant-loop-block l =
     (l.block ≤ l.blocks)
     × (length l.values ≡ 160)
-    × (held l.values l.newest ≡ synthesis_after l.subbands (held l.initial.values l.initial.newest) (blocks_in l.block l.subbands l.samples))
-    × (l.output ≡ placed l.channels l.channel 0 (l.block * l.subbands) (pcm_of l.subbands (held l.initial.values l.initial.newest) l.samples l.block) l.initial.output)
+    × (held l.values l.newest
+    ≡ synthesis_after l.subbands (held l.initial.values l.initial.newest) (blocks_in l.block l.subbands l.samples))
+    × (l.output
+    ≡ placed l.channels l.channel 0 (l.block * l.subbands)
+    (pcm_of l.subbands (held l.initial.values l.initial.newest) l.samples l.block) l.initial.output)
 
 abbrev pub decreases-loop-block : goal.decreases-loop-block
 decreases-loop-block l = l.blocks - l.block

@@ -3,10 +3,7 @@
 -- Assumes nothing.
 use mathlib.Core.Path.{refl}
 use native.Mathlib.Omega.{arith}
-use lib.ListN.{get_or}
-use lib.IntN.{pos}
 use mir.Syntax.{w16}
-use mir.Val.{SFits}
 use borrow.Author.Rules.{rules}
 use Rattle.sbc_play.proofs.Weaving.{placed-none, placed-next}
 use Rattle.sbc_play.proofs.put_block.Goals as goal
@@ -16,5 +13,4 @@ loop-j-init c = (omega arith, placed-none _ _ _ _ _)
 
 pub loop-j-preserved : goal.loop-j-preserved
 loop-j-preserved c =
-    let fits : SFits w16 (get_or c.args.pcm.now c.loop-j.j (pos 0)) = search rules in
-    (omega arith, placed-next w16 _ _ _ _ _ _ _ _ fits c.loop-j.invariant.1 refl)
+    (omega arith, placed-next w16 _ _ _ _ _ _ _ _ (search rules) c.loop-j.invariant.1 refl)
