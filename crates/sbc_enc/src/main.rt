@@ -2,8 +2,8 @@
 //
 // The arguments are the sample rate in Hz, the mode (mono, dual, stereo, joint), the allocation (loudness, snr), the blocks, the subbands
 // and the bitpool; with none, they are those of HIGH_QUALITY. Samples at the end that do not fill a frame are left out. A refusal ends the
-// program, with its number on standard error; settings that are refused, or not understood, are number 3. A write that fails ends it with that
-// error, and a read that fails counts as the end of the input.
+// program, with its number on standard error; settings that are refused, or not understood, are number 3. A write that fails ends it with
+// that error, and a read that fails counts as the end of the input.
 #![tactic(auto)]
 
 mod settings;

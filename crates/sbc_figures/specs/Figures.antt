@@ -6,11 +6,13 @@ use Rattle.laws.specs.Lists.{collect, build, all_of, index_of, listed}
 use Rattle.laws.specs.Bits.{odd, bits_of}
 use Rattle.crc8.specs.Checksum.{crc_step, crc_bits}
 use Rattle.sbc_modes.specs.Modes.{channel_modes, allocations, mode_number, allocation_number}
-use Rattle.sbc_parameters.specs.Parameters.{high_quality, msbc, sample_rates, block_counts, subband_counts, maximum_bitpool, is_msbc, msbc_tests, field_tests, accepted, validate}
+use Rattle.sbc_parameters.specs.Parameters.{high_quality, msbc, sample_rates, block_counts, subband_counts, maximum_bitpool}
+use Rattle.sbc_parameters.specs.Parameters.{is_msbc, msbc_tests, field_tests, accepted, validate}
 use Rattle.sbc_parameters.specs.Sizes.{join_count, block_bits, audio_bits, frame_length, samples_per_channel, frame_samples}
 use Rattle.sbc_parameters.specs.Header.{from_settings, parse}
 use Rattle.sbc_need.specs.Need.{need}
-use Rattle.sbc_share.specs.Share.{sum, above, heights, level_part, level_bits, descend, greatest_need, least_need, level_of, base_bits, round_gain, round_bits, last_bit, share_at, share}
+use Rattle.sbc_share.specs.Share.{sum, above, heights, level_part, level_bits, descend, greatest_need, least_need, level_of}
+use Rattle.sbc_share.specs.Share.{base_bits, round_gain, round_bits, last_bit, share_at, share}
 use Rattle.sbc_allocation.specs.Allocate.{channel_needs, allocate_by, allocate}
 use Rattle.sbc_quantizer.specs.Quantizing.{first_from, scale_factor, quantize, reconstruct}
 use Rattle.sbc_decoder.specs.Decode.{new_decoder, with_parameters}
@@ -31,7 +33,8 @@ abbrev pub numbers : List ℕ → List ℕ → Figure
 numbers given stated = record { given = map pos given; stated = map pos stated }
 
 unfoldable pub shown_set : Told SbcParameters → List ℕ
-shown_set (gives p) = p.sample_rate ∷ mode_number p.channel_mode ∷ allocation_number p.allocation ∷ p.blocks ∷ p.subbands ∷ p.bitpool ∷ []
+shown_set (gives p) =
+    p.sample_rate ∷ mode_number p.channel_mode ∷ allocation_number p.allocation ∷ p.blocks ∷ p.subbands ∷ p.bitpool ∷ []
 shown_set (refuses n) = n ∷ []
 
 unfoldable pub shown_valid : Told Unit → List ℕ
@@ -119,12 +122,11 @@ table = sizes ++ (headers ++ (checksums ++ (shares ++ (reconstructions ++ (quant
 -- ---- the statement
 
 pub figures_hold : map (λ row. row.given) table ≡ map (λ row. row.stated) table
-unfolding sizes headers checksums shares share_set reconstructions quantizings factors seeks least_set dual_set shown_set shown_valid
-    all_of index_of listed odd bits_of crc_step crc_bits
-    high_quality msbc sample_rates block_counts channel_modes allocations subband_counts maximum_bitpool is_msbc msbc_tests field_tests accepted validate
-    join_count block_bits audio_bits frame_length samples_per_channel frame_samples
-    from_settings parse seek_frame seek_offset seek_skip request_of request_in seek_request seek_answered seek with_parameters new_decoder shown_seek
-    first_from scale_factor quantize reconstruct
-    build collect need sum above heights level_part level_bits descend greatest_need least_need level_of base_bits round_gain round_bits last_bit share_at share
-    channel_needs allocate_by allocate
+unfolding sizes headers checksums shares share_set reconstructions quantizings factors seeks least_set dual_set shown_set shown_valid all_of
+    index_of listed odd bits_of crc_step crc_bits high_quality msbc sample_rates block_counts channel_modes allocations subband_counts
+    maximum_bitpool is_msbc msbc_tests field_tests accepted validate join_count block_bits audio_bits frame_length samples_per_channel
+    frame_samples from_settings parse seek_frame seek_offset seek_skip request_of request_in seek_request seek_answered seek
+    with_parameters new_decoder shown_seek first_from scale_factor quantize reconstruct build collect need sum above heights level_part
+    level_bits descend greatest_need least_need level_of base_bits round_gain round_bits last_bit share_at share channel_needs allocate_by
+    allocate
 figures_hold = refl

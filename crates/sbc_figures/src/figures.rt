@@ -1,5 +1,5 @@
-// The figures of document 01, on the compiled code. A set of parameters shows as rate, mode, allocation, blocks, subbands and bitpool; a refusal
-// as its number. A function with many calls is proved slowly, so each group has its own.
+// The figures of document 01, on the compiled code. A set of parameters shows as rate, mode, allocation, blocks, subbands and bitpool; a
+// refusal as its number. A function with many calls is proved slowly, so each group has its own.
 use crate::show::{byte, end_line, holds, number, refusal, text};
 use bits::{Bits, Room};
 use sbc_allocation::allocate;

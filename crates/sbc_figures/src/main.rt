@@ -1,5 +1,5 @@
-// Runs the figures of document 01, the published frame of silence and streams of other codecs on the compiled code, and writes what it gives, a
-// line each; the file stdout has what must come.
+// Runs the figures of document 01, the published frame of silence and streams of other codecs on the compiled code, and writes what it
+// gives, a line each; the file stdout has what must come.
 #![tactic(auto)]
 
 mod distance;

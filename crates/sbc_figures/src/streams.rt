@@ -1,5 +1,5 @@
-// Streams that the encoders of BlueZ and FFmpeg wrote, decoded, beside the samples of the Rust and of those codecs' own decoders. The files stand
-// in data/, with how they were made. Each buffer has more room than a file needs, so that a file that is too long shows.
+// Streams that the encoders of BlueZ and FFmpeg wrote, decoded, beside the samples of the Rust and of those codecs' own decoders. The files
+// stand in data/, with how they were made. Each buffer has more room than a file needs, so that a file that is too long shows.
 ghost use Rattle.std.specs.Prelude.{◌≡◌, ◌*◌, ◌≤◌, length};
 ghost use Rattle.sbc_figures.specs.Distance.{differing, farthest};
 ghost use Rattle.pcm.specs.Samples.{samples_in};
@@ -43,8 +43,8 @@ fn read_full<R: Read>(input: &mut R, buffer: &mut [u8]) -> usize
     done
 }
 
-// Reads a file, as much of it as the buffer takes, and answers how much that was: nothing where it cannot be opened, which is said on standard
-// error.
+// Reads a file, as much of it as the buffer takes, and answers how much that was: nothing where it cannot be opened, which is said on
+// standard error.
 fn read_file(rt: &(impl Files + Eprint), path: &str, buffer: &mut [u8]) -> usize
     ensures { result ≤ length buffer.new }
 {

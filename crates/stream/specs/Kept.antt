@@ -1,5 +1,5 @@
--- What `keep` leaves: of the first `held` bytes those behind the first `used`, moved to the front. Where the buffer holds fewer than `held`,
--- or more are used than are held, nothing is kept and no byte is changed.
+-- What `keep` leaves: of the first `held` bytes those behind the first `used`, moved to the front. Where the buffer holds fewer than
+-- `held`, or more are used than are held, nothing is kept and no byte is changed.
 use Rattle.std.specs.Prelude.{ℕ, ◌-◌, Bool, ◌&&◌, List, ◌++◌, leb, length, take, drop, if◌then◌else◌}
 
 -- whether the numbers fit a buffer of this length

@@ -1,6 +1,5 @@
--- `distance::differing` meets its contract: a turn counts one more pair, for at most 1. The samples, as the call takes them, are had back from
--- their bits.
--- Assumes nothing.
+-- `distance::differing` meets its contract: a turn counts one more pair, for at most 1. The samples, as the call takes them, are had back
+-- from their bits. Assumes nothing.
 use Prim.Native.Nat.{ℕ, ◌+◌, ◌≤◌}
 use mathlib.Core.Path.{◌≡◌, refl, sym, ap, ap₂, ◌∙◌}
 use native.Mathlib.Numerals.{add-one}
@@ -42,8 +41,10 @@ pub loop-i-preserved : goal.loop-i-preserved
 loop-i-preserved c =
     let x : SFits w16 (get_or c.args.ours.now c.loop-i.i (pos 0)) = search rules in
     let y : SFits w16 (get_or c.args.theirs.now c.loop-i.i (pos 0)) = search rules in
-    let e = simp to_z-of_z at c.unequal-count.ensures in
-    (omega (arith, unequal-le, c.unequal-count.ensures), counted_next (unequal_at c.args.ours.now c.args.theirs.now) c.loop-i.i _ _ c.loop-i.invariant.1 e)
+    let e = simp to_z-of_z at c.unequal-count.ensures in (
+      omega (arith, unequal-le, c.unequal-count.ensures),
+      counted_next (unequal_at c.args.ours.now c.args.theirs.now) c.loop-i.i _ _ c.loop-i.invariant.1 e,
+    )
 
 pub returns : goal.returns
 unfolding differing
