@@ -11,8 +11,8 @@
 //   F, R, r: finish, reset of the decoder, reset of the encoder
 //   Q  the decoder's set: 1 and it, or 0 and zeros
 //   A  a set, 16 scale factors: allocate. 16 bytes
-// The program ends at the end of its input, at any other byte, at a record that is cut, and at a buffer of more than 65,536 bytes or samples.
-// A write that fails ends it with that error, and a read that fails counts as the end of the input.
+// The program ends at the end of its input, at any other byte, at a record that is cut, and at a buffer of more than 65,536 bytes or
+// samples. A write that fails ends it with that error, and a read that fails counts as the end of the input.
 #![tactic(auto)]
 
 mod numbers;
