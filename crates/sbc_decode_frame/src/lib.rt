@@ -1,5 +1,6 @@
 // One frame of an SBC stream, decoded; and what is dropped of its samples after a seek.
 #![tactic(auto)]
+
 ghost use Rattle.std.specs.Prelude.{◌≡◌, true, ◌++◌, ◌-◌, ◌≤◌, length, take, drop};
 ghost use Rattle.sbc_parameters.specs.Parameters.{accepted};
 ghost use Rattle.sbc_parameters.specs.Sizes.{frame_length, frame_samples};
