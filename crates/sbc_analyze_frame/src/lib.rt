@@ -1,5 +1,6 @@
 // PCM to the subband samples of a frame's channels, block by block through each channel's analysis filterbank, into an array of 128, eight places a block.
 #![tactic(auto)]
+
 ghost use Rattle.std.specs.Prelude.{◌≡◌, ◌+◌, ◌*◌, ◌≤◌, ◌<◌, eqb, length, get_or, replicate, pos, if◌then◌else◌};
 ghost use Rattle.laws.specs.Lists.{build};
 ghost use Rattle.laws.specs.Sums.{up_to, overwrite};
