@@ -49,7 +49,8 @@ least_set = record { sample_rate = 16000; channel_mode = Mono; allocation = Loud
 
 -- dual channel, 16 blocks, 8 subbands
 unfoldable pub dual_set : ℕ → SbcParameters
-dual_set bitpool = record { sample_rate = 48000; channel_mode = DualChannel; allocation = Loudness; blocks = 16; subbands = 8; bitpool = bitpool }
+dual_set bitpool =
+    record { sample_rate = 48000; channel_mode = DualChannel; allocation = Loudness; blocks = 16; subbands = 8; bitpool = bitpool }
 
 -- ---- the rows, in the document's order
 
