@@ -50,7 +50,8 @@ module _ {S : ℕ} (C c b : ℕ) (X input pcm after outputs : List ℤ) (bands :
   pub block-analyzed : (T : ℕ) → T ≡ S
       → (after ≡ shifted T X (build T (λ j. get_or input ((b * T + j) * C + c) (pos 0)))) × (outputs ≡ padded (analysis_outputs T after))
   block-analyzed T e =
-      subst (λ (t : ℕ). (after ≡ shifted t X (build t (λ j. get_or input ((b * t + j) * C + c) (pos 0)))) × (outputs ≡ padded (analysis_outputs t after)))
+      subst (λ (t : ℕ).
+      (after ≡ shifted t X (build t (λ j. get_or input ((b * t + j) * C + c) (pos 0)))) × (outputs ≡ padded (analysis_outputs t after)))
       (sym e) (entered, o ∙ ap (λ (l : List ℤ). padded (analysis_outputs S l)) (sym h))
 
 -- ---- the blocks of a channel
@@ -91,7 +92,8 @@ module _ (S C c n b : ℕ) (X input old new : List ℤ) (less : b < n) (e : old 
       → SamplesIn (b + 1) (analyze_blocks (b + 1) S X PCM) ys
   samples-next outputs xs ys o w room held k s h lt =
       ap (λ (l : List ℤ). sample_in l k s) w ∙ go (eq-or-lt_of_le (omega arith))
-      ∙ sym (ap (λ (l : List (List ℤ)). sample_at l k s) (analyze-next S b X PCM ∙ ap (λ (l : List ℤ). before ++ (analysis_outputs S l ∷ [])) (sym new_is)))
+      ∙ sym (ap (λ (l : List (List ℤ)). sample_at l k s)
+      (analyze-next S b X PCM ∙ ap (λ (l : List ℤ). before ++ (analysis_outputs S l ∷ [])) (sym new_is)))
     where
       before : List (List ℤ)
       before = analyze_blocks b S X PCM
@@ -103,7 +105,8 @@ module _ (S C c n b : ℕ) (X input old new : List ℤ) (less : b < n) (e : old 
       go (inl r) =
           rw r
           (overwrite-at (8 * b) f xs 8 s (pos 0) lt room ∙ ap (λ (l : List ℤ). get_or l s (pos 0)) o ∙ padded-at (analysis_outputs S new) s
-          ∙ sym (ap (λ (l : List ℤ). get_or l s (pos 0)) (get_or_at before (analysis_outputs S new) [] [] b (length-analyze_blocks S b X PCM))))
+          ∙ sym (ap (λ (l : List ℤ). get_or l s (pos 0))
+          (get_or_at before (analysis_outputs S new) [] [] b (length-analyze_blocks S b X PCM))))
       go (inr l) =
           overwrite-below (8 * b) f xs 8 (8 * k + s) (pos 0) (omega arith) ∙ held k s l lt
           ∙ sym (ap (λ (m : List ℤ). get_or m s (pos 0))

@@ -1,4 +1,5 @@
-// PCM to the subband samples of a frame's channels, block by block through each channel's analysis filterbank, into an array of 128, eight places a block.
+// PCM to the subband samples of a frame's channels, block by block through each channel's analysis filterbank, into an
+// array of 128, eight places a block.
 #![tactic(auto)]
 
 ghost use Rattle.std.specs.Prelude.{◌≡◌, ◌+◌, ◌*◌, ◌≤◌, ◌<◌, eqb, length, get_or, replicate, pos, if◌then◌else◌};
@@ -42,8 +43,11 @@ fn analyze_block(
     channel: usize,
     channels: usize,
 ) -> [i32; 8]
-    requires { (Bands subbands) × (block < 16) × (channel < channels) × (channels ≤ 2) × ((block + 1) * subbands * channels ≤ length input.now) }
-    ensures history { history.new ≡ shifted subbands history.old (build subbands (λ j. get_or input.now ((block * subbands + j) * channels + channel) (pos 0))) }
+    requires { (Bands subbands) × (block < 16) × (channel < channels) × (channels ≤ 2)
+        × ((block + 1) * subbands * channels ≤ length input.now) }
+    ensures history { history.new
+        ≡ shifted subbands history.old
+        (build subbands (λ j. get_or input.now ((block * subbands + j) * channels + channel) (pos 0))) }
     ensures outputs { result ≡ padded (analysis_outputs subbands history.new) }
 {
     if subbands == 4 {
@@ -63,9 +67,11 @@ pub fn analyze_channel(
     channel: usize,
     channels: usize,
 ) -> [i32; 128]
-    requires { (Bands subbands) × (blocks ≤ 16) × (channel < channels) × (channels ≤ 2) × (blocks * subbands * channels ≤ length input.now) }
+    requires { (Bands subbands) × (blocks ≤ 16) × (channel < channels) × (channels ≤ 2)
+        × (blocks * subbands * channels ≤ length input.now) }
     ensures history { history.new ≡ analysis_after blocks subbands history.old (pcm_in channels channel (blocks * subbands) input.now) }
-    ensures samples { result ≡ samples_array blocks (analyze_blocks blocks subbands history.old (pcm_in channels channel (blocks * subbands) input.now)) }
+    ensures samples { result
+        ≡ samples_array blocks (analyze_blocks blocks subbands history.old (pcm_in channels channel (blocks * subbands) input.now)) }
 {
     let mut samples = [0i32; 128];
     for block in 0..blocks {
@@ -84,8 +90,12 @@ pub fn analyze_second(
     channels: usize,
 ) -> [i32; 128]
     requires { (Bands subbands) × (blocks ≤ 16) × (0 < channels) × (channels ≤ 2) × (blocks * subbands * channels ≤ length input.now) }
-    ensures history { history.new ≡ (if eqb channels 1 then history.old else analysis_after blocks subbands history.old (pcm_in channels 1 (blocks * subbands) input.now)) }
-    ensures samples { result ≡ (if eqb channels 1 then replicate 128 (pos 0) else samples_array blocks (analyze_blocks blocks subbands history.old (pcm_in channels 1 (blocks * subbands) input.now))) }
+    ensures history { history.new
+        ≡ (if eqb channels 1 then history.old
+        else analysis_after blocks subbands history.old (pcm_in channels 1 (blocks * subbands) input.now)) }
+    ensures samples { result
+        ≡ (if eqb channels 1 then replicate 128 (pos 0)
+        else samples_array blocks (analyze_blocks blocks subbands history.old (pcm_in channels 1 (blocks * subbands) input.now))) }
     ensures long { length result ≡ 128 }
 {
     if channels == 1 {

@@ -1,4 +1,5 @@
--- `sbc_analyze_frame::pcm_block` meets its contract. The loop's invariant: the places before j hold the channel's samples, and the others 0.
+-- `sbc_analyze_frame::pcm_block` meets its contract. The loop's invariant: the places before j hold the channel's samples, and the others
+-- 0.
 -- Assumes nothing.
 use Prim.Native.Nat.{◌+◌, ◌*◌}
 use mathlib.Core.Path.{refl}

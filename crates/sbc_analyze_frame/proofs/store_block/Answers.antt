@@ -1,5 +1,5 @@
--- `sbc_analyze_frame::store_block` meets its contract. The loop's invariant: the first s places of the block hold its samples, and all other
--- places hold what they held.
+-- `sbc_analyze_frame::store_block` meets its contract. The loop's invariant: the first s places of the block hold its samples, and all
+-- other places hold what they held.
 -- Assumes nothing.
 use mathlib.Core.Path.{refl}
 use native.Mathlib.Omega.{arith}
