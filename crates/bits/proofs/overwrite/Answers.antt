@@ -3,18 +3,12 @@
 -- The measure is the number of bits left.
 -- Assumes nothing.
 use Prim.Native.Nat.{ℕ, ◌+◌, ◌-◌, ◌/◌}
-use mathlib.Core.Path.{◌≡◌, refl, sym, ap, ◌∙◌}
+use mathlib.Core.Path.{◌≡◌, sym, ap, ◌∙◌}
 use native.Mathlib.Omega.{arith}
 use lib.ListN.{set, length-set}
 use Rattle.bits.specs.Fields.{overwritten}
 use Rattle.bits.proofs.Bytewise.{set-small, overwritten-step, overwritten-none}
 use Rattle.bits.proofs.overwrite.Goals as goal
-
-pub loop-left-init : goal.loop-left-init
-loop-left-init c = (refl, omega arith, refl, λ k. omega (arith, c.type_inv.bytes k), refl)
-
-pub least-n-requires : goal.least-n-requires
-least-n-requires c = tt
 
 pub loop-left-preserved : goal.loop-left-preserved
 loop-left-preserved c =
@@ -32,9 +26,6 @@ loop-left-preserved c =
       set-small l.bytes (l.at / 8) x (omega (arith, c.with_bits.type_inv)) l.invariant.3,
       step ∙ l.invariant.4,
     )
-
-pub shape_of-bytes : goal.shape_of-bytes
-shape_of-bytes c = c.loop-left.invariant.2
 
 pub returns : goal.returns
 returns c =

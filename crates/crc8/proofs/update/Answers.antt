@@ -1,7 +1,7 @@
 -- `crc8::update` meets its contract. The invariant: the bytes that are left take the register to the result.
 -- Assumes nothing.
 use Prim.Native.Nat.{ℕ, ◌+◌}
-use mathlib.Core.Path.{◌≡◌, refl, sym, ap, ◌∙◌}
+use mathlib.Core.Path.{◌≡◌, sym, ap, ◌∙◌}
 use native.Mathlib.Omega.{arith}
 use lib.ListN.{get_or, take, drop}
 use lib.Seq.{take_all}
@@ -10,12 +10,6 @@ use Rattle.laws.proofs.Bits.{length-bits_of}
 use Rattle.crc8.specs.Checksum.{crc_bits}
 use Rattle.crc8.proofs.Registers.{bytes_next, bytes-end}
 use Rattle.crc8.proofs.update.Goals as goal
-
-pub loop-i-init : goal.loop-i-init
-loop-i-init c = (omega arith, refl)
-
-pub update_bits-register-requires : goal.update_bits-register-requires
-update_bits-register-requires c = tt
 
 pub loop-i-preserved : goal.loop-i-preserved
 loop-i-preserved c =

@@ -2,7 +2,6 @@
 -- Assumes nothing.
 use Prim.Native.Nat.{ℕ, ◌+◌, ◌-◌, ◌/◌, ◌^◌}
 use mathlib.Core.Path.{◌≡◌, sym, ap, ◌∙◌}
-use native.Mathlib.Numerals.{unary_clauses}
 use native.Mathlib.Omega.{arith}
 use lib.ListN.{take}
 use borrow.Author.Tests.{ltb-true, ltb-false}
@@ -10,21 +9,6 @@ use Rattle.laws.specs.Bits.{odd, bits_of}
 use Rattle.crc8.specs.Checksum.{crc_step, crc_bits}
 use Rattle.crc8.proofs.Registers.{bits-next, bits-end}
 use Rattle.crc8.proofs.update_bits.Goals as goal
-
-pub loop-i-init : goal.loop-i-init
-loop-i-init c = simp unary_clauses
-
-pub overflow_sub-i : goal.overflow_sub-i
-overflow_sub-i c = omega (arith, ltb-true)
-
-pub overflow_cast-i : goal.overflow_cast-i
-overflow_cast-i c = omega (arith, ltb-true)
-
-pub overflow_shr-byte : goal.overflow_shr-byte
-overflow_shr-byte c = omega (arith, ltb-true)
-
-pub step-register-requires : goal.step-register-requires
-step-register-requires c = tt
 
 pub loop-i-preserved : goal.loop-i-preserved
 loop-i-preserved c =

@@ -37,8 +37,5 @@ read_back n h =
 pub returns-then-n-lt32768 : goal.returns-then-n-lt32768
 returns-then-n-lt32768 c = to_z_pos w16 {n = c.args.n} (omega arith) ∙ sym (below c.args.n (omega arith))
 
-pub overflow_sub-result-2 : goal.overflow_sub-result-2
-overflow_sub-result-2 c = rw (to_z_pos w16 {n = 65535 - c.args.n} (omega arith)) (low (65535 - c.args.n) (omega arith))
-
 pub returns : goal.returns
 returns c = read_back c.args.n (omega arith)

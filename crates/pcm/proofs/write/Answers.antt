@@ -45,9 +45,6 @@ two_bytes z n a b e p q =
 pub loop-i-init : goal.loop-i-init
 loop-i-init c = (omega arith, refl, none_written _ c.args.bytes.now)
 
-pub bounds-bytes-i-in-loop-i : goal.bounds-bytes-i-in-loop-i
-bounds-bytes-i-in-loop-i c = simp length-set (omega arith)
-
 pub loop-i-preserved : goal.loop-i-preserved
 loop-i-preserved c =
     let l = c.loop-i in
