@@ -1,5 +1,6 @@
 // The scale factors of a frame: of each subband, by its greatest sample.
 #![tactic(auto)]
+
 ghost use Rattle.std.specs.Prelude.{◌≡◌, ◌≤◌, ◌<◌, max, get_or, nat_abs};
 ghost use Rattle.laws.specs.Lists.{build};
 ghost use Rattle.sbc_frame.specs.Arrays.{sample_in};
