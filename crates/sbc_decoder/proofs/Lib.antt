@@ -4,4 +4,3 @@ pub mod Taking
 pub mod Turning
 pub mod Seeking
 pub mod Refusals
-mod Lending

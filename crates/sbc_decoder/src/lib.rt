@@ -1,6 +1,7 @@
 // The SBC and mSBC decoder: its state, what its calls give back, and the calls by value; `lent` has them on a decoder that is lent. Their
 // definitions stand in specs/.
 #![tactic(auto)]
+
 mod lent;
 
 ghost use Rattle.std.specs.Prelude.{◌≡◌, true, List, ◌-◌, ◌*◌, ◌≤◌, eqb, ℤ, length};
