@@ -40,7 +40,8 @@ module _ (bytes widths factors : List ℕ) (position block-bits blocks : ℕ) wh
   values-at : (b s : ℕ) → b < blocks → s < 8 → sample_at channel_read b s ≡ channel_value b s
   unfolding channel_values
   values-at b s hb hs =
-      ap (λ (l : List ℤ). get_or l s (pos 0)) (get_or-build blocks (λ b. build 8 (channel_value b)) b [] hb) ∙ get_or-build 8 (channel_value b) s (pos 0) hs
+      ap (λ (l : List ℤ). get_or l s (pos 0)) (get_or-build blocks (λ b. build 8 (channel_value b)) b [] hb)
+      ∙ get_or-build 8 (channel_value b) s (pos 0) hs
 
   -- an array that has them, and zeros behind them
   pub values-are : (xs : List ℤ) → length xs ≡ 128 → ((b s : ℕ) → b < blocks → s < 8 → sample_in xs b s ≡ channel_value b s)

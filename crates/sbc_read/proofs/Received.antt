@@ -34,12 +34,14 @@ use Rattle.sbc_frame.specs.Decoding.{reconstructed_at, decoded_at}
 use Rattle.sbc_frame.specs.Arrays.{below, sample_in, SamplesIn, samples_array, entry, Small, with_flagged}
 use Rattle.sbc_read.specs.Reading.{row_at, flag_row, left_factors, right_factors, value_of, channel_values, channel_array}
 use Rattle.sbc_frame.proofs.Sizes.{joins-two, joins-le, row-sizes}
-use Rattle.sbc_frame.proofs.Widths.{Enough, rows-enough, block-width, allocate-agree, table-width, width-none, width-absent, row-width, rows-width}
+use Rattle.sbc_frame.proofs.Widths.{Enough, rows-enough, block-width, allocate-agree, table-width, width-none, width-absent}
+use Rattle.sbc_frame.proofs.Widths.{row-width, rows-width}
 use Rattle.sbc_frame.proofs.Positions.{flags-inside, factor-inside, value-inside, frame-room}
 use Rattle.sbc_frame.proofs.Reading.{enough-factors, read-value}
 use Rattle.sbc_frame.proofs.Columns.{array_behind}
 use Rattle.sbc_frame.proofs.Flagged.{length-flagged, flagged-in, flagged-zero}
-use Rattle.sbc_read.proofs.Arrays.{channel_value, value_none, channel_read, values-in, channel_rows, rows-there, rows-absent, rows_behind, channel-is}
+use Rattle.sbc_read.proofs.Arrays.{channel_value, value_none, channel_read, values-in, channel_rows, rows-there, rows-absent}
+use Rattle.sbc_read.proofs.Arrays.{rows_behind, channel-is}
 
 -- ---- rows of eight
 module _ (bytes : List ℕ) (position width count : ℕ) where
@@ -96,7 +98,8 @@ module _ (p : SbcParameters) (a : accepted p ≡ true) (frame : List ℕ) (long 
   number-inside position n h =
       ap number_of
       (rw bits-of-append
-      (part-front (bits_of_bytes frame) (bits_of_bytes (replicate (528 - length frame) 0)) position n (omega (arith, length-bits_of_bytes frame, long))))
+      (part-front (bits_of_bytes frame) (bits_of_bytes (replicate (528 - length frame) 0)) position n
+      (omega (arith, length-bits_of_bytes frame, long))))
 
   -- ---- join flags
   flag-odd : (v : ℕ) → v < 2 → eqb v 1 ≡ odd v
@@ -107,7 +110,8 @@ module _ (p : SbcParameters) (a : accepted p ≡ true) (frame : List ℕ) (long 
   unfolding unpack read_join
   flag_is s = go (ltb s (join_count p)) refl
     where
-      go : (t : Bool) → ltb s (join_count p) ≡ t → eqb (entry (flag_row p bytes_of) s) 1 ≡ get_or (build (join_count p) (λ s. odd (number_at frame (32 + s) 1))) s false
+      go : (t : Bool) → ltb s (join_count p) ≡ t
+          → eqb (entry (flag_row p bytes_of) s) 1 ≡ get_or (build (join_count p) (λ s. odd (number_at frame (32 + s) 1))) s false
       go true e =
           let h = ltb-true s (join_count p) e in
           let r = ranges p a in
@@ -214,10 +218,12 @@ module _ (p : SbcParameters) (a : accepted p ≡ true) (frame : List ℕ) (long 
   read-in : (b c s : ℕ) → b < p.blocks → s < 8
       → sample_in (read_array c) b s ≡ channel_value bytes_of (width_row c) (get_or factor_rows c []) (start c) (block_bits p) p.blocks b s
   read-in b c s hb hs =
-      values-in bytes_of (width_row c) (get_or factor_rows c []) (start c) (block_bits p) p.blocks (read_array c) (ranges p a).blocks-high refl b s hb hs
+      values-in bytes_of (width_row c) (get_or factor_rows c []) (start c) (block_bits p) p.blocks (read_array c) (ranges p a).blocks-high refl
+      b s hb hs
 
   -- it is what is reconstructed
-  sample_is : (b c s : ℕ) → b < p.blocks → c < channels p → s < p.subbands → sample_in (read_array c) b s ≡ reconstructed_at p (unpack p frame) b c s
+  sample_is : (b c s : ℕ) → b < p.blocks → c < channels p → s < p.subbands
+      → sample_in (read_array c) b s ≡ reconstructed_at p (unpack p frame) b c s
   unfolding value_of reconstructed_at unpack
   sample_is b c s hb hc hs =
       let factors : List (List ℕ) = read_factors p frame in
@@ -225,7 +231,8 @@ module _ (p : SbcParameters) (a : accepted p ≡ true) (frame : List ℕ) (long 
       let eight : s < 8 = omega (arith, (ranges p a).subbands-high) in
       let w : entry (width_row c) s ≡ width_at p factors c s = width_is c s two eight in
       let f : entry (get_or factor_rows c []) s ≡ factor_at (unpack p frame) c s = factor_is c s hc hs in
-      let q : number_at bytes_of (start c + total s (entry (width_row c)) + b * block_bits p) (entry (width_row c) s) ≡ value_at (unpack p frame) b c s =
+      let q : number_at bytes_of (start c + total s (entry (width_row c)) + b * block_bits p) (entry (width_row c) s)
+      ≡ value_at (unpack p frame) b c s =
       ap₂ (λ (n k : ℕ). number_at bytes_of n k) (place_is b c s hc hs) w
       ∙ number-inside (value_position p factors b c s) (width_at p factors c s)
       (value-inside p a factors (enough-factors p frame) b c s hb hc hs)
@@ -248,7 +255,8 @@ module _ (p : SbcParameters) (a : accepted p ≡ true) (frame : List ℕ) (long 
   unfolding value_of
   sample-small c fs b s hb hs =
       rw (read-in b c s hb hs)
-      (reconstruct-bound _ (entry (get_or factor_rows c []) s) (entry (width_row c) s) (number-at-lt bytes_of _ (entry (width_row c) s)) (fs s))
+      (reconstruct-bound _ (entry (get_or factor_rows c []) s) (entry (width_row c) s) (number-at-lt bytes_of _ (entry (width_row c) s))
+      (fs s))
 
   -- ---- sum and difference
   -- a set flag stands for a subband that there is, and for two channels
@@ -274,24 +282,31 @@ module _ (p : SbcParameters) (a : accepted p ≡ true) (frame : List ℕ) (long 
           absurd (omega (arith, flag-low s e, joins-le p, out (omega arith)))
       go false e = refl
 
-  -- the arrays after sum and difference
+  -- sum and difference
+  abbrev sum_at : ℕ → ℕ → ℤ
+  sum_at b s = sample_in (read_array 0) b s +ℤ sample_in (read_array 1) b s
+
+  abbrev difference_at : ℕ → ℕ → ℤ
+  difference_at b s = sample_in (read_array 0) b s -ℤ sample_in (read_array 1) b s
+
+  -- the arrays after them
   abbrev sum_array : List ℤ
-  sum_array = with_flagged p.blocks (flag_row p bytes_of) (λ b s. sample_in (read_array 0) b s +ℤ sample_in (read_array 1) b s) (read_array 0)
+  sum_array = with_flagged p.blocks (flag_row p bytes_of) sum_at (read_array 0)
 
   abbrev difference_array : List ℤ
-  difference_array = with_flagged p.blocks (flag_row p bytes_of) (λ b s. sample_in (read_array 0) b s -ℤ sample_in (read_array 1) b s) (read_array 1)
+  difference_array = with_flagged p.blocks (flag_row p bytes_of) difference_at (read_array 1)
 
   module _ (b s : ℕ) (hb : b < p.blocks) (hs : s < 8) where
     sums : sample_in sum_array b s
-        ≡ (if eqb (entry (flag_row p bytes_of) s) 1 then sample_in (read_array 0) b s +ℤ sample_in (read_array 1) b s else sample_in (read_array 0) b s)
+        ≡ (if eqb (entry (flag_row p bytes_of) s) 1 then sum_at b s else sample_in (read_array 0) b s)
     sums =
-        flagged-in p.blocks (flag_row p bytes_of) (λ b s. sample_in (read_array 0) b s +ℤ sample_in (read_array 1) b s) (read_array 0) b s hb
+        flagged-in p.blocks (flag_row p bytes_of) sum_at (read_array 0) b s hb
         (ranges p a).blocks-high hs
 
     differences : sample_in difference_array b s
-        ≡ (if eqb (entry (flag_row p bytes_of) s) 1 then sample_in (read_array 0) b s -ℤ sample_in (read_array 1) b s else sample_in (read_array 1) b s)
+        ≡ (if eqb (entry (flag_row p bytes_of) s) 1 then difference_at b s else sample_in (read_array 1) b s)
     differences =
-        flagged-in p.blocks (flag_row p bytes_of) (λ b s. sample_in (read_array 0) b s -ℤ sample_in (read_array 1) b s) (read_array 1) b s hb
+        flagged-in p.blocks (flag_row p bytes_of) difference_at (read_array 1) b s hb
         (ranges p a).blocks-high hs
 
     -- their samples are those that are decoded
@@ -308,7 +323,8 @@ module _ (p : SbcParameters) (a : accepted p ≡ true) (frame : List ℕ) (long 
     decoded-there (suc (suc c)) hc h t e = absurd (omega (arith, (channels-range p).1))
 
     -- and 0 where there is no such channel or no such subband
-    decoded-none : (c : ℕ) → c < 2 → (c < channels p → p.subbands ≤ s) → sample_in (get_or (sum_array ∷ difference_array ∷ []) c []) b s ≡ pos 0
+    decoded-none : (c : ℕ) → c < 2 → (c < channels p → p.subbands ≤ s)
+        → sample_in (get_or (sum_array ∷ difference_array ∷ []) c []) b s ≡ pos 0
     decoded-none zero hc out = sums ∙ rw (flag_is s, flag-clear 0 s hc out) (sample-none b 0 s hb hc hs out)
     decoded-none (suc zero) hc out = differences ∙ rw (flag_is s, flag-clear 1 s hc out) (sample-none b 1 s hb hc hs out)
     decoded-none (suc (suc c)) hc out = absurd (omega arith)
@@ -332,12 +348,14 @@ module _ (p : SbcParameters) (a : accepted p ≡ true) (frame : List ℕ) (long 
   -- so they are the arrays of the channels
   sum_is : sum_array ≡ channel_array p (unpack p frame) 0
   sum_is =
-      channel-is p (unpack p frame) 0 sum_array (length-flagged p.blocks (flag_row p bytes_of) _ (read_array 0)) (decoded-in 0 (omega arith))
+      channel-is p (unpack p frame) 0 sum_array (length-flagged p.blocks (flag_row p bytes_of) _ (read_array 0))
+      (decoded-in 0 (omega arith))
       (flagged-zero p.blocks (flag_row p bytes_of) _ (read_array 0) (array_behind p.blocks _))
 
   difference-is : difference_array ≡ channel_array p (unpack p frame) 1
   difference-is =
-      channel-is p (unpack p frame) 1 difference_array (length-flagged p.blocks (flag_row p bytes_of) _ (read_array 1)) (decoded-in 1 (omega arith))
+      channel-is p (unpack p frame) 1 difference_array (length-flagged p.blocks (flag_row p bytes_of) _ (read_array 1))
+      (decoded-in 1 (omega arith))
       (flagged-zero p.blocks (flag_row p bytes_of) _ (read_array 1) (array_behind p.blocks _))
 
   -- and small
@@ -465,7 +483,8 @@ module _ {p : SbcParameters} {frame bytes left right : List ℕ} {table : List (
 
       difference-in : r ≡ difference_array p g.good frame g.long
       difference-in =
-          difference ∙ (λ i. with_flagged p.blocks (flag-row i) (λ b s. sample_in (left_in i) b s -ℤ sample_in (right-in i) b s) (right-in i))
+          difference
+          ∙ (λ i. with_flagged p.blocks (flag-row i) (λ b s. sample_in (left_in i) b s -ℤ sample_in (right-in i) b s) (right-in i))
 
       pub left-frame : l ≡ channel_array p (unpack p frame) 0
       left-frame = sum-in ∙ sum_is p g.good frame g.long

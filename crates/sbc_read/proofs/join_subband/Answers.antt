@@ -1,4 +1,4 @@
--- `sbc_read::join_subband` meets its contract: those samples that the next block has are still the old ones, and small enough for their sum
+-- `sbc_read::join_subband` meets its contract: the samples of the next block are still the old ones, and small enough for their sum
 -- and difference.
 -- Assumes nothing.
 use Prim.Native.Nat.{ℕ, ◌^◌, ◌≤◌, ◌<◌}
@@ -61,13 +61,15 @@ loop-block-init c = (
 
 pub overflow_add-left : goal.overflow_add-left
 overflow_add-left c =
-    sum-fits c.args.left.now c.args.right.now c.loop-block.left c.loop-block.right c.loop-block.block c.args.subband (omega arith) (omega arith)
-    c.loop-block.invariant.1 c.loop-block.invariant.2 (c.requires.4 c.loop-block.block (omega arith))
+    let l = c.loop-block in
+    sum-fits c.args.left.now c.args.right.now l.left l.right l.block c.args.subband (omega arith) (omega arith) l.invariant.1 l.invariant.2
+    (c.requires.4 l.block (omega arith))
 
 pub overflow_sub-right : goal.overflow_sub-right
 overflow_sub-right c =
-    differs-fits c.args.left.now c.args.right.now c.loop-block.left c.loop-block.right c.loop-block.block c.args.subband (omega arith) (omega arith)
-    c.loop-block.invariant.1 c.loop-block.invariant.2 (c.requires.4 c.loop-block.block (omega arith))
+    let l = c.loop-block in
+    differs-fits c.args.left.now c.args.right.now l.left l.right l.block c.args.subband (omega arith) (omega arith) l.invariant.1
+    l.invariant.2 (c.requires.4 l.block (omega arith))
 
 pub loop-block-preserved : goal.loop-block-preserved
 loop-block-preserved c =
@@ -87,13 +89,4 @@ loop-block-preserved c =
           (sum_value left₀ right₀ left right b s h k e d small),
       replace-next s (differences left₀ right₀ s) right₀ h b right _ d (differs-fits left₀ right₀ left right b s h k e d small)
           (difference_value left₀ right₀ left right b s h k e d small),
-    )
-
-pub returns : goal.returns
-returns c =
-    let e : c.loop-block.block ≡ c.args.blocks = omega arith in (
-      c.loop-block.invariant.1
-          ∙ ap (λ (n : ℕ). with_subband n c.args.subband (sums c.args.left.now c.args.right.now c.args.subband) c.args.left.now) e,
-      c.loop-block.invariant.2
-          ∙ ap (λ (n : ℕ). with_subband n c.args.subband (differences c.args.left.now c.args.right.now c.args.subband) c.args.right.now) e,
     )

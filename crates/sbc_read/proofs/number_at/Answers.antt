@@ -4,12 +4,8 @@
 use Prim.Native.Nat.{ℕ, ◌-◌, ◌/◌, ◌%◌, ◌^◌, ◌<◌}
 use mathlib.Core.Path.{sym, ap₂, ◌∙◌, subst}
 use native.Mathlib.Omega.{arith}
-use lib.Pow.{pow_pos}
 use Rattle.bits.proofs.Windows.{window-number, number-at-lt}
 use Rattle.sbc_read.proofs.number_at.Goals as goal
-
-pub nonzero_rem-result : goal.nonzero_rem-result
-nonzero_rem-result c = omega (arith, c.power_of_two.ensures, pow_pos c.args.count)
 
 pub returns : goal.returns
 returns c =

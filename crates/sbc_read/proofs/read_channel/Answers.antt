@@ -1,7 +1,7 @@
 -- `sbc_read::read_channel` meets its contract. The loop's invariant: the subbands passed have their samples, the others and what is
 -- behind the blocks have zeros, and where the next subband's first value stands.
 -- Assumes nothing.
-use Prim.Native.Nat.{ℕ, ◌+◌, ◌*◌}
+use Prim.Native.Nat.{ℕ, ◌+◌, ◌*◌, ◌<◌}
 use mathlib.Core.Path.{◌≡◌, refl, sym, ap, ◌∙◌}
 use mathlib.Core.List.{List}
 use native.Mathlib.Omega.{arith}
@@ -9,7 +9,7 @@ use lib.ListN.{length, replicate, get_or-replicate}
 use lib.IntN.{ℤ, pos}
 use Rattle.laws.specs.Lists.{total}
 use Rattle.sbc_read.specs.Reading.{value_of}
-use Rattle.sbc_frame.specs.Arrays.{with_subband, entry}
+use Rattle.sbc_frame.specs.Arrays.{with_subband, sample_in, entry}
 use Rattle.sbc_frame.proofs.Positions.{total-below}
 use Rattle.sbc_frame.proofs.Blocks.{total-next}
 use Rattle.sbc_frame.proofs.Columns.{length-replaced, mixed-none, mixed-all, mixed-store, mixed-skip}
@@ -18,16 +18,21 @@ use Rattle.sbc_read.proofs.Arrays.{channel_value, value_none, values-are}
 use Rattle.sbc_read.proofs.read_channel.Goals as goal
 use Rattle.sbc_read.proofs.read_channel.Goals.{then-width-ne0, else-width-ne0}
 
+-- an array of zeros
+zero_at : (b s : ℕ) → b < 16 → s < 8 → sample_in (replicate 128 (pos 0)) b s ≡ pos 0
+zero_at b s h k = get_or-replicate 128 (8 * b + s) (pos 0) (pos 0) (omega arith)
+
 pub loop-subband-init : goal.loop-subband-init
 unfolding total
-loop-subband-init c = (
-  omega arith,
-  refl,
-  omega arith,
-  mixed-none c.args.blocks (channel_value c.args.bytes.now c.args.widths.now c.args.factors.now c.args.position c.args.block_bits c.args.blocks) (λ _ _. pos 0)
-      (replicate 128 (pos 0)) (λ b s h k. get_or-replicate 128 (8 * b + s) (pos 0) (pos 0) (omega arith)),
-  λ b s _ h k. get_or-replicate 128 (8 * b + s) (pos 0) (pos 0) (omega arith),
-)
+loop-subband-init c =
+    let a = c.args in
+    let g : ℕ → ℕ → ℤ = channel_value a.bytes.now a.widths.now a.factors.now a.position a.block_bits a.blocks in (
+      omega arith,
+      refl,
+      omega arith,
+      mixed-none a.blocks g (λ _ _. pos 0) (replicate 128 (pos 0)) (λ b s h. zero_at b s (omega arith)),
+      λ b s _. zero_at b s,
+    )
 
 pub read_subband-requires : goal.read_subband-requires
 read_subband-requires c = (
@@ -67,7 +72,8 @@ loop-subband-preserved c =
             omega arith,
             ap length e ∙ length-replaced s f was n,
             omega (arith, more, w.at-is, c.loop-subband.invariant.2),
-            mixed-store n g (λ _ _. pos 0) s was mixed f is (omega arith) (omega arith) e (λ b _. ap (λ (k : ℕ). value k b) c.loop-subband.invariant.2),
+            mixed-store n g (λ _ _. pos 0) s was mixed f is (omega arith) (omega arith) e
+                (λ b _. ap (λ (k : ℕ). value k b) c.loop-subband.invariant.2),
             behind-store n (λ _ _. pos 0) s f was is behind e,
           )
       | else-width-ne0 w ↦
@@ -83,6 +89,8 @@ loop-subband-preserved c =
 
 pub returns : goal.returns
 returns c =
-    let g : ℕ → ℕ → ℤ = channel_value c.args.bytes.now c.args.widths.now c.args.factors.now c.args.position c.args.block_bits c.args.blocks in
-    values-are c.args.bytes.now c.args.widths.now c.args.factors.now c.args.position c.args.block_bits c.args.blocks c.loop-subband.samples c.loop-subband.invariant.1
-    (mixed-all c.args.blocks g (λ _ _. pos 0) c.loop-subband.subband c.loop-subband.samples c.loop-subband.invariant.3 (omega arith)) c.loop-subband.invariant.4
+    let a = c.args in
+    let l = c.loop-subband in
+    let g : ℕ → ℕ → ℤ = channel_value a.bytes.now a.widths.now a.factors.now a.position a.block_bits a.blocks in
+    values-are a.bytes.now a.widths.now a.factors.now a.position a.block_bits a.blocks l.samples l.invariant.1
+    (mixed-all a.blocks g (λ _ _. pos 0) l.subband l.samples l.invariant.3 (omega arith)) l.invariant.4

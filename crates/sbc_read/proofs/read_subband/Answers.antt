@@ -5,54 +5,36 @@ use Prim.Native.Nat.{ℕ}
 use mathlib.Core.Path.{◌≡◌, ap, ◌∙◌}
 use native.Mathlib.Nat.{add-mul}
 use native.Mathlib.Omega.{arith}
+use lib.IntN.{ℤ}
 use Rattle.bits.specs.Fields.{number_at}
 use Rattle.sbc_quantizer.specs.Quantizing.{reconstruct}
 use Rattle.sbc_quantizer.specs.Dequantizing.{Dequantizes}
 use Rattle.sbc_read.specs.Reading.{value_of}
-use Rattle.sbc_frame.specs.Arrays.{with_subband}
 use Rattle.sbc_frame.proofs.Columns.{none-replaced, replace-next}
 use Rattle.sbc_read.proofs.read_subband.Goals as goal
 
 pub loop-block-init : goal.loop-block-init
-loop-block-init c = (
-  omega arith,
-  omega arith,
-  none-replaced c.args.subband (value_of c.args.bytes.now c.args.position c.args.block_bits c.args.width c.args.factor) c.args.samples.now c.requires.0,
-)
-
-pub number_at-requires : goal.number_at-requires
-number_at-requires c = (c.requires.1, omega arith, omega arith, omega (arith, c.requires.8 c.loop-block.block (omega arith)))
-
--- the dequantizer is the one for the number that is read
-pub apply-requires : goal.apply-requires
-apply-requires c = (
-  c.args.factor,
-  c.args.width,
-  record { bits = omega arith; factor = omega arith; made = c.new-dequantizer.ensures; value = c.number_at.ensures.1 },
-)
-
-pub overflow_add-at : goal.overflow_add-at
-overflow_add-at c = omega (arith, c.requires.8 c.loop-block.block (omega arith))
+loop-block-init c =
+    let a = c.args in (
+      omega arith,
+      omega arith,
+      none-replaced a.subband (value_of a.bytes.now a.position a.block_bits a.width a.factor) a.samples.now c.requires.0,
+    )
 
 pub loop-block-preserved : goal.loop-block-preserved
 unfolding value_of
 loop-block-preserved c =
-    let fit : Dequantizes c.new-dequantizer.result c.number_at.result c.args.factor c.args.width =
+    let a = c.args in
+    let l = c.loop-block in
+    let f : ℕ → ℤ = value_of a.bytes.now a.position a.block_bits a.width a.factor in
+    let fit : Dequantizes c.new-dequantizer.result c.number_at.result a.factor a.width =
     record { bits = omega arith; factor = omega arith; made = c.new-dequantizer.ensures; value = c.number_at.ensures.1 } in
-    let value : c.apply.result ≡ value_of c.args.bytes.now c.args.position c.args.block_bits c.args.width c.args.factor c.loop-block.block =
-    c.apply.ensures c.args.factor c.args.width fit
-    ∙ ap (λ (q : ℕ). reconstruct q c.args.factor c.args.width)
-    (c.number_at.ensures.0 ∙ ap (λ (k : ℕ). number_at c.args.bytes.now k c.args.width) c.loop-block.invariant.1) in (
+    let value : c.apply.result ≡ f l.block =
+    c.apply.ensures a.factor a.width fit
+    ∙ ap (λ (q : ℕ). reconstruct q a.factor a.width)
+    (c.number_at.ensures.0 ∙ ap (λ (k : ℕ). number_at a.bytes.now k a.width) l.invariant.1) in (
       omega arith,
-      omega (arith, add-mul c.loop-block.block 1 c.args.block_bits),
-      replace-next c.args.subband (value_of c.args.bytes.now c.args.position c.args.block_bits c.args.width c.args.factor) c.args.samples.now
-          (omega arith) c.loop-block.block c.loop-block.samples c.apply.result c.loop-block.invariant.2 (record { sfits = c.apply.type_inv }) value,
+      omega (arith, add-mul l.block 1 a.block_bits),
+      replace-next a.subband f a.samples.now (omega arith) l.block l.samples c.apply.result l.invariant.2
+          (record { sfits = c.apply.type_inv }) value,
     )
-
-pub returns : goal.returns
-returns c =
-    let e : c.loop-block.block ≡ c.args.blocks = omega arith in
-    c.loop-block.invariant.2
-    ∙ ap
-    (λ (n : ℕ). with_subband n c.args.subband (value_of c.args.bytes.now c.args.position c.args.block_bits c.args.width c.args.factor) c.args.samples.now)
-    e

