@@ -2,11 +2,9 @@
 -- 0.
 -- Assumes nothing.
 use Prim.Native.Nat.{◌+◌, ◌*◌}
-use mathlib.Core.Path.{refl}
 use native.Mathlib.Omega.{arith}
 use lib.ListN.{get_or}
 use lib.IntN.{pos}
-use mir.Syntax.{w16}
 use borrow.Author.Rules.{rules}
 use Rattle.laws.proofs.Arrays.{fill_none, filled, stored}
 use Rattle.sbc_analyze_frame.proofs.pcm_block.Goals as goal
@@ -15,7 +13,7 @@ pub loop-j-init : goal.loop-j-init
 loop-j-init c = (omega arith, fill_none 8 _)
 
 pub loop-j-preserved : goal.loop-j-preserved
-loop-j-preserved c = (omega arith, stored w16 8 _ _ _ _ (search rules) (omega arith) c.loop-j.invariant.1 refl)
+loop-j-preserved c = (omega arith, search (rules, stored))
 
 pub returns : goal.returns
 returns c =

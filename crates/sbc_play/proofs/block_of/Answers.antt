@@ -1,8 +1,6 @@
 -- `sbc_play::block_of` meets its contract. The loop's invariant: the places before s hold the block's samples, and the others 0.
 -- Assumes nothing.
 use native.Mathlib.Omega.{arith}
-use mathlib.Core.Path.{refl}
-use mir.Syntax.{w32}
 use borrow.Author.Rules.{rules}
 use Rattle.laws.specs.Lists.{collect, build}
 use Rattle.laws.proofs.Arrays.{fill_none, filled, stored}
@@ -13,8 +11,7 @@ pub loop-s-init : goal.loop-s-init
 loop-s-init c = (omega arith, fill_none 8 _)
 
 pub loop-s-preserved : goal.loop-s-preserved
-loop-s-preserved c =
-    (omega arith, stored w32 8 _ _ _ _ (search rules) (omega arith) c.loop-s.invariant.1 refl)
+loop-s-preserved c = (omega arith, search (rules, stored))
 
 pub returns : goal.returns
 unfolding collect build

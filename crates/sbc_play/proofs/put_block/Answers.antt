@@ -1,9 +1,7 @@
 -- `sbc_play::put_block` meets its contract. The loop's invariant: the first j samples stand in the channel's places, and all other
 -- places hold what they held.
 -- Assumes nothing.
-use mathlib.Core.Path.{refl}
 use native.Mathlib.Omega.{arith}
-use mir.Syntax.{w16}
 use borrow.Author.Rules.{rules}
 use Rattle.sbc_play.proofs.Weaving.{placed-none, placed-next}
 use Rattle.sbc_play.proofs.put_block.Goals as goal
@@ -12,5 +10,4 @@ pub loop-j-init : goal.loop-j-init
 loop-j-init c = (omega arith, placed-none _ _ _ _ _)
 
 pub loop-j-preserved : goal.loop-j-preserved
-loop-j-preserved c =
-    (omega arith, placed-next w16 _ _ _ _ _ _ _ _ (search rules) c.loop-j.invariant.1 refl)
+loop-j-preserved c = (omega arith, search (rules, placed-next))
