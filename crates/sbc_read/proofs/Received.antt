@@ -218,8 +218,8 @@ module _ (p : SbcParameters) (a : accepted p ≡ true) (frame : List ℕ) (long 
   read-in : (b c s : ℕ) → b < p.blocks → s < 8
       → sample_in (read_array c) b s ≡ channel_value bytes_of (width_row c) (get_or factor_rows c []) (start c) (block_bits p) p.blocks b s
   read-in b c s hb hs =
-      values-in bytes_of (width_row c) (get_or factor_rows c []) (start c) (block_bits p) p.blocks (read_array c) (ranges p a).blocks-high refl
-      b s hb hs
+      values-in bytes_of (width_row c) (get_or factor_rows c []) (start c) (block_bits p) p.blocks (read_array c) (ranges p a).blocks-high
+      refl b s hb hs
 
   -- it is what is reconstructed
   sample_is : (b c s : ℕ) → b < p.blocks → c < channels p → s < p.subbands
