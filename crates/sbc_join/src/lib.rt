@@ -1,5 +1,6 @@
 // Joint stereo: which subbands are coded as the sum and the difference of the channels.
 #![tactic(auto)]
+
 ghost use Rattle.std.specs.Prelude.{◌≡◌, ℕ, ◌+◌, ◌≤◌, ◌<◌, length};
 ghost use Rattle.laws.specs.Bits.{digit};
 ghost use Rattle.sbc_frame.specs.Arrays.{sample_in, entry, with_subband};
