@@ -1,6 +1,7 @@
 // A decoder as a struct of numbers, and the decoder's calls on it, by value; `sbc_abi` has them on a state that is lent. Their definitions stand in
 // specs/.
 #![tactic(auto)]
+
 ghost use Rattle.std.specs.Prelude.{◌≡◌};
 ghost use Rattle.sbc_decoder.specs.Decode.{new_decoder, decode};
 ghost use Rattle.sbc_seek.specs.Seek.{told_seek};

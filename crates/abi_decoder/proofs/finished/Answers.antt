@@ -1,0 +1,16 @@
+-- `finished` meets its contract.
+-- Assumes nothing.
+use mathlib.Core.Path.{refl, sym, ap, ◌∙◌}
+use Rattle.sbc_decoder.specs.Decode.{finish}
+use Rattle.abi_decoder.specs.Decoder.{state_of, finish_state}
+use Rattle.abi_decoder.proofs.finished.Goals as goal
+
+pub returns-then-is_decoder : goal.returns-then-is_decoder
+unfolding finish_state
+returns-then-is_decoder c =
+    rw (sym c.is_decoder.ensures ∙ c.if-is_decoder.true)
+    (c.state_of.ensures ∙ ap state_of (c.finished.ensures ∙ ap finish c.decoder_in.ensures))
+
+pub returns : goal.returns
+unfolding finish_state
+returns c = rw (sym c.is_decoder.ensures ∙ c.if-is_decoder.false) refl
