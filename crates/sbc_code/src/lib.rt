@@ -1,5 +1,6 @@
 // What is coded of a frame, of its channels' subband samples: join flags, scale factors and samples.
 #![tactic(auto)]
+
 ghost use Rattle.std.specs.Prelude.{◌≡◌, true, length};
 ghost use Rattle.sbc_parameters.specs.Parameters.{accepted};
 ghost use Rattle.sbc_code.specs.Coding.{plain_coding, joint_coding, coding_of};
