@@ -1,0 +1,189 @@
+-- `sbc_write_frame::write_body` meets its contract: the parts are written one behind the other, and fill the body but for fewer than
+-- eight bits.
+-- Assumes nothing.
+use Prim.Native.Nat.{ℕ, ◌+◌, ◌-◌, ◌*◌, ◌≤◌, ◌<◌}
+use mathlib.Core.Path.{◌≡◌, ap, ap₂, ◌∙◌}
+use mathlib.Core.Bool.{Bool, true}
+use mathlib.Core.List.{List, [], ◌∷◌, ◌++◌, append_assoc}
+use native.Mathlib.Omega.{arith}
+use lib.ListN.{length, get_or}
+use lib.IntN.{ℤ}
+use Rattle.std.proofs.Common.{rules}
+use Rattle.sbc_parameters.specs.declared.SbcParameters.{SbcParameters}
+use Rattle.sbc_parameters.specs.Parameters.{channels, accepted}
+use Rattle.sbc_parameters.specs.Sizes.{join_count, frame_length}
+use Rattle.sbc_parameters.proofs.Accepted.{ranges}
+use Rattle.sbc_allocation.specs.Allocate.{allocation_table}
+use Rattle.sbc_allocation.proofs.Rows.{table-16}
+use Rattle.sbc_frame.specs.Layout.{filled}
+use Rattle.sbc_frame.specs.Arrays.{entry}
+use Rattle.sbc_write.specs.Writing.{row_bits, value_bits_of}
+use Rattle.sbc_write_frame.specs.Framing.{coding_bits}
+use Rattle.sbc_frame.proofs.Positions.{body_width, body-room}
+use Rattle.sbc_frame.proofs.Sizes.{row-sizes}
+use Rattle.sbc_write_frame.proofs.Headed.{no_bits}
+use Rattle.sbc_write_frame.proofs.write_body.Goals as goal
+
+module _ (p : SbcParameters) (left right : List ℕ) (table : List (List ℕ)) where
+  -- the parts fill the body but for fewer than eight bits
+  room : table ≡ allocation_table p (left ∷ right ∷ []) → accepted p ≡ true → length left ≡ 8 → length right ≡ 8 → (size : ℕ)
+      → size + 4 ≡ frame_length p → (body_width p table ≤ 8 * size) × (8 * size < body_width p table + 8)
+  room e good l r size h = rw e (body-room p good left right l r size h)
+
+  -- no subband has more than 16 bits
+  widths_16 : table ≡ allocation_table p (left ∷ right ∷ []) → (ch s : ℕ) → entry (get_or table ch []) s ≤ 16
+  widths_16 e ch s = rw e (table-16 p (left ∷ right ∷ []) ch s)
+
+  -- the bits of the parts, one behind the other, are those of the body
+  module _ (xs ys : List ℤ) (flags : List ℕ) (joins others : ℕ) where
+    in_order : (none flagged half side end : List Bool) → none ≡ [] → joins ≡ join_count p → others ≡ p.subbands * (channels p - 1)
+        → flagged ≡ none ++ row_bits flags 1 joins → half ≡ flagged ++ row_bits left 4 p.subbands → side ≡ half ++ row_bits right 4 others
+        → end ≡ side ++ value_bits_of xs ys (get_or table 0 []) (get_or table 1 []) left right p.blocks
+        → table ≡ allocation_table p (left ∷ right ∷ []) → end ≡ coding_bits p flags left right xs ys
+    unfolding coding_bits
+    in_order none flagged half side end n j o a b d e t = rw (e, d, b, a, n, o, j, t) (simp append_assoc)
+
+-- how many scale factors the second channel has, as the code counts its channels
+others_is : (p : SbcParameters) (n : ℕ) → n ≡ channels p → p.subbands * (n - 1) ≡ p.subbands * (channels p - 1)
+others_is p n e = ap (λ (k : ℕ). p.subbands * (k - 1)) e
+
+pub overflow_sub-others : goal.overflow_sub-others
+overflow_sub-others c = omega (arith, c.channels.ensures, (row-sizes _ c.requires.0).channels-low)
+
+pub overflow_mul-others : goal.overflow_mul-others
+overflow_mul-others c =
+    let p : SbcParameters = c.args.parameters in
+    omega (arith, others_is p c.channels.result c.channels.ensures, (row-sizes p c.requires.0).others-high)
+
+pub put_row-flagged-requires : goal.put_row-flagged-requires
+put_row-flagged-requires c =
+    let p : SbcParameters = c.args.parameters in
+    let r = row-sizes p c.requires.0 in
+    let left : List ℕ = c.args.left_factors.now in
+    let right : List ℕ = c.args.right_factors.now in
+    let allocated = c.allocate-widths.ensures in
+    let fits = room p left right c.allocate-widths.result allocated c.requires.0 c.requires.2 c.requires.3 _ c.requires.1 in (
+      omega arith,
+      omega (arith, c.join_count-joins.ensures.0, r.joins-high),
+      λ s. omega (arith, c.requires.4 s),
+      (omega arith, omega arith, omega arith),
+      omega (arith, c.join_count-joins.ensures.0, fits.0),
+    )
+
+pub put_row-half-requires : goal.put_row-half-requires
+put_row-half-requires c =
+    let p : SbcParameters = c.args.parameters in
+    let r = row-sizes p c.requires.0 in
+    let left : List ℕ = c.args.left_factors.now in
+    let right : List ℕ = c.args.right_factors.now in
+    let allocated = c.allocate-widths.ensures in
+    let fits = room p left right c.allocate-widths.result allocated c.requires.0 c.requires.2 c.requires.3 _ c.requires.1 in (
+      omega arith,
+      r.subbands-high,
+      λ s. omega (arith, c.requires.5 s),
+      c.put_row-flagged.ensures.ready.0,
+      omega (arith, c.put_row-flagged.ensures.ready.1, c.put_row-flagged.auto.bytes, c.join_count-joins.ensures.0, fits.0),
+    )
+
+pub put_row-side-requires : goal.put_row-side-requires
+put_row-side-requires c =
+    let p : SbcParameters = c.args.parameters in
+    let r = row-sizes p c.requires.0 in
+    let left : List ℕ = c.args.left_factors.now in
+    let right : List ℕ = c.args.right_factors.now in
+    let allocated = c.allocate-widths.ensures in
+    let fits = room p left right c.allocate-widths.result allocated c.requires.0 c.requires.2 c.requires.3 _ c.requires.1 in
+    let others = others_is p c.channels.result c.channels.ensures in (
+      omega arith,
+      omega (arith, others, r.others-high),
+      λ s. omega (arith, c.requires.6 s),
+      c.put_row-half.ensures.ready.0,
+      omega (
+        arith,
+        c.put_row-half.ensures.ready.1,
+        c.put_row-half.auto.bytes,
+        c.put_row-flagged.ensures.ready.1,
+        c.put_row-flagged.auto.bytes,
+        c.join_count-joins.ensures.0,
+        others,
+        fits.0,
+      ),
+    )
+
+pub put_values-end-requires : goal.put_values-end-requires
+put_values-end-requires c =
+    let p : SbcParameters = c.args.parameters in
+    let table : List (List ℕ) = c.allocate-widths.result in
+    let left : List ℕ = c.args.left_factors.now in
+    let right : List ℕ = c.args.right_factors.now in
+    let allocated = c.allocate-widths.ensures in
+    let fits = room p left right table allocated c.requires.0 c.requires.2 c.requires.3 _ c.requires.1 in
+    let others = others_is p c.channels.result c.channels.ensures in (
+      (ranges p c.requires.0).blocks-high,
+      widths_16 p left right table c.allocate-widths.ensures 0,
+      widths_16 p left right table c.allocate-widths.ensures 1,
+      c.requires.5,
+      c.requires.6,
+      c.put_row-side.ensures.ready.0,
+      omega (
+        arith,
+        c.put_row-side.ensures.ready.1,
+        c.put_row-side.auto.bytes,
+        c.put_row-half.ensures.ready.1,
+        c.put_row-half.auto.bytes,
+        c.put_row-flagged.ensures.ready.1,
+        c.put_row-flagged.auto.bytes,
+        c.join_count-joins.ensures.0,
+        others,
+        fits.0,
+      ),
+    )
+
+pub finish-requires : goal.finish-requires
+finish-requires c =
+    let p : SbcParameters = c.args.parameters in
+    let table : List (List ℕ) = c.allocate-widths.result in
+    let left : List ℕ = c.args.left_factors.now in
+    let right : List ℕ = c.args.right_factors.now in
+    let allocated = c.allocate-widths.ensures in
+    let fits = room p left right table allocated c.requires.0 c.requires.2 c.requires.3 _ c.requires.1 in
+    let others = others_is p c.channels.result c.channels.ensures in (
+      c.put_values-end.ensures.ready.0,
+      omega (
+        arith,
+        c.put_values-end.ensures.ready.1,
+        c.put_values-end.auto.bytes,
+        c.put_row-side.ensures.ready.1,
+        c.put_row-side.auto.bytes,
+        c.put_row-half.ensures.ready.1,
+        c.put_row-half.auto.bytes,
+        c.put_row-flagged.ensures.ready.1,
+        c.put_row-flagged.auto.bytes,
+        c.join_count-joins.ensures.0,
+        others,
+        fits.1,
+      ),
+      search rules,
+    )
+
+pub returns : goal.returns
+returns c =
+    let p : SbcParameters = c.args.parameters in
+    let size : length c.put_values-end.new.bytes ≡ frame_length p - 4 =
+    omega (
+      arith,
+      c.put_values-end.auto.bytes,
+      c.put_row-side.auto.bytes,
+      c.put_row-half.auto.bytes,
+      c.put_row-flagged.auto.bytes,
+      c.requires.1,
+    )
+    in
+    let left : List ℕ = c.args.left_factors.now in
+    let right : List ℕ = c.args.right_factors.now in
+    let others = others_is p c.channels.result c.channels.ensures in
+    let wrote = in_order p left right _ _ _ c.args.flags.now _ _ _ _ _ _ _ (no_bits c.args.body.now) c.join_count-joins.ensures.0 others
+    c.put_row-flagged.ensures.written c.put_row-half.ensures.written c.put_row-side.ensures.written c.put_values-end.ensures.written
+    c.allocate-widths.ensures
+    in
+    c.finish.ensures ∙ ap₂ filled size wrote
