@@ -2,4 +2,3 @@
 pub mod Writing
 pub mod Framing
 pub mod Refusals
-mod Lending

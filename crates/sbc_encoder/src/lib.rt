@@ -1,6 +1,7 @@
 // The SBC and mSBC encoder: its state, what its calls give back, and the calls by value; `lent` has them on an encoder that is lent. Their
 // definitions stand in specs/.
 #![tactic(auto)]
+
 mod lent;
 
 ghost use Rattle.std.specs.Prelude.{◌≡◌, true, ◌++◌, ◌*◌, ◌≤◌, length, drop};

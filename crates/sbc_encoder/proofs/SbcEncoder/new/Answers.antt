@@ -8,15 +8,7 @@ use Rattle.sbc_parameters.specs.declared.SbcParameters.{SbcParameters}
 use Rattle.sbc_encoder.specs.Encode.{encoder_of, new_encoder}
 use Rattle.sbc_encoder.specs.declared.SbcEncoder.{SbcEncoder}
 use Rattle.sbc_encoder.specs.Told.{created_as, told_created}
-use borrow.Author.Rules.{rules}
-use Rattle.sbc_encoder.proofs.SbcEncoder.new.Statement.{statement}
-use Rattle.sbc_encoder.proofs.SbcEncoder.new.Tie as tie
-
-validate-requires : tie.Need-validate-requires
-validate-requires c κs = search rules
-
-silent-encoder-requires : tie.Need-silent-encoder-requires
-silent-encoder-requires c κs = search rules
+use Rattle.sbc_encoder.proofs.SbcEncoder.new.Goals as goal
 
 -- an encoder as `validate` answers is a new one
 created-is : (p : SbcParameters) → created_as (encoder_of p) (validate p) ≡ new_encoder p
@@ -25,12 +17,7 @@ created-is p =
     by-test (λ (t : Told SbcEncoder). created_as (encoder_of p) (validate p) ≡ t) (accepted p) (gives (encoder_of p)) (refuses 3)
     (λ a. rw a) (λ a. rw a)
 
-returns : tie.Need-returns
+pub returns : goal.returns
 unfolding told_created
-returns c = (
-  ap₂ created_as c.silent-encoder.ensures c.before.validate.ensures ∙ created-is c.before.before.args.parameters,
-  c.silent-encoder.ensures,
-)
-
-pub new_spec : {M : Type 1} → statement M
-new_spec = tie.close (tie.spec validate-requires silent-encoder-requires returns)
+returns c =
+    record { created = ap₂ created_as c.silent_encoder.ensures c.validate.ensures ∙ created-is c.args.parameters; encoder = c.silent_encoder.ensures }

@@ -1,0 +1,123 @@
+-- `SbcEncoder::encode_accepted` meets its contract: the answer of an output under one frame, and that of the frames that both buffers hold.
+-- Assumes nothing.
+use Prim.Native.Nat.{ℕ, ◌*◌, ◌/◌, ◌≤◌, min}
+use mathlib.Core.Path.{◌≡◌, refl, sym, ap, ap₂, subst, subst₂, ◌∙◌}
+use mathlib.Core.List.{List, [], ◌++◌}
+use native.Mathlib.Omega.{arith}
+use lib.IntN.{ℤ}
+use lib.ListN.{length, get_or, drop}
+use borrow.Author.Tests.{lt-ltb, le-ltb}
+use Rattle.laws.specs.Answers.{gives}
+use Rattle.laws.specs.Lists.{collect, build}
+use Rattle.laws.proofs.Lists.{build-is}
+use Rattle.sbc_parameters.specs.Sizes.{frame_length, frame_samples}
+use Rattle.sbc_parameters.proofs.Accepted.{frame-length-range, frame-samples-range}
+use Rattle.codec.specs.Answers.{told_coded, whole_frames, progress_of}
+use Rattle.sbc_encoder.specs.Encode.{encoder_after, encoded_frames, pack_all, encode_frames, encode}
+use Rattle.sbc_encoder.specs.Told.{told_encoded, encoder_with}
+use Rattle.sbc_encoder.specs.declared.Analysis.{Analysis}
+use Rattle.sbc_encoder.specs.declared.SbcEncoder.{SbcEncoder}
+use Rattle.codec.proofs.Fitting.{fits_in}
+use Rattle.sbc_encoder.proofs.Writing.{frames, frames-fit}
+use Rattle.sbc_encoder.proofs.SbcEncoder.encode_accepted.Goals as goal
+
+-- what the code reads where an array has no such history
+abbrev none : Analysis
+none = record { history = [] }
+
+-- an encoder with two histories is what they make
+held : (e : SbcEncoder) (d : Analysis) → length e.analysis ≡ 2
+    → encoder_with e.parameters (get_or e.analysis 0 d).history (get_or e.analysis 1 d).history ≡ e
+unfolding collect build
+held e d two =
+    ap (λ l. record { parameters = e.parameters; analysis = l })
+    (build-is 2 (λ i. get_or e.analysis i d) e.analysis d two (λ i h. refl))
+
+-- a number of frames of k samples, with what the code has for it and for k
+count_is : (e : SbcEncoder) (input : List ℤ) (output : List ℕ) (n samples size : ℕ)
+    → samples ≡ frame_samples e.parameters → size ≡ frame_length e.parameters
+    → n ≡ min (length input / samples) (length output / size) → n ≡ frames e input output
+unfolding whole_frames
+count_is e input output n samples size s z h =
+    h ∙ ap₂ (λ samples bytes. min (length input / samples) (length output / bytes)) s z
+
+-- they fit into both
+reads : (e : SbcEncoder) (input : List ℤ) (output : List ℕ) (n : ℕ) → n ≡ frames e input output
+    → n * frame_samples e.parameters ≤ length input
+unfolding whole_frames
+reads e input output n h =
+    subst (λ n. n * frame_samples e.parameters ≤ length input) (sym h)
+    (fits_in (length input) (frame_samples e.parameters) (length output) (frame_length e.parameters))
+
+fills : (e : SbcEncoder) (input : List ℤ) (output : List ℕ) (n : ℕ) → n ≡ frames e input output
+    → n * frame_length e.parameters ≤ length output
+fills e input output n h = subst (λ n. n * frame_length e.parameters ≤ length output) (sym h) (frames-fit e input output)
+
+pub returns-then-output-length : goal.returns-then-output-length
+unfolding told_coded told_encoded encode
+returns-then-output-length c =
+    let e = c.args.self in
+    rw (
+      c.requires,
+      lt-ltb (length c.args.output.now) (frame_length e.parameters) (omega (arith, c.if-output-length.true, c.frame_length-length.ensures)),
+    )
+
+pub nonzero_div-input : goal.nonzero_div-input
+nonzero_div-input c = omega (arith, c.frame_samples-samples.ensures, (frame-samples-range c.args.self.parameters c.requires).0)
+
+pub nonzero_div-output : goal.nonzero_div-output
+nonzero_div-output c = omega (arith, c.frame_length-length.ensures, (frame-length-range c.args.self.parameters c.requires).0)
+
+pub encode_frames-requires : goal.encode_frames-requires
+encode_frames-requires c =
+    let e = c.args.self in
+    let h =
+    count_is e c.args.input.now c.args.output.now c.least-count.result _ _ c.frame_samples-samples.ensures c.frame_length-length.ensures
+    c.least-count.ensures in
+    (c.requires, reads e c.args.input.now c.args.output.now _ h, fills e c.args.input.now c.args.output.now _ h)
+
+pub overflow_mul-consumed : goal.overflow_mul-consumed
+overflow_mul-consumed c =
+    let e = c.args.self in
+    let h =
+    count_is e c.args.input.now c.args.output.now c.least-count.result _ _ c.frame_samples-samples.ensures c.frame_length-length.ensures
+    c.least-count.ensures in
+    omega
+    (arith, reads e c.args.input.now c.args.output.now _ h, ap (λ n. c.least-count.result * n) c.frame_samples-samples.ensures)
+
+pub overflow_mul-produced : goal.overflow_mul-produced
+overflow_mul-produced c =
+    let e = c.args.self in
+    let h =
+    count_is e c.args.input.now c.args.output.now c.least-count.result _ _ c.frame_samples-samples.ensures c.frame_length-length.ensures
+    c.least-count.ensures in
+    omega (arith, fills e c.args.input.now c.args.output.now _ h, ap (λ n. c.least-count.result * n) c.frame_length-length.ensures)
+
+-- after the frames: the encoder and the output are those of the call
+pub returns : goal.returns
+unfolding told_coded progress_of told_encoded encode_frames encode
+returns c =
+    let e : SbcEncoder = c.args.self in
+    let input : List ℤ = c.args.input.now in
+    let output : List ℕ = c.args.output.now in
+    let n : ℕ = frames e input output in
+    let left : List ℤ = c.encode_frames.new.left in
+    let right : List ℤ = c.encode_frames.new.right in
+    let filled : List ℕ = c.encode_frames.new.output in
+    let h : c.least-count.result ≡ n =
+    count_is e input output c.least-count.result _ _ c.frame_samples-samples.ensures c.frame_length-length.ensures c.least-count.ensures in
+    let w = c.well_formed in
+    let two : length c.args.self.analysis ≡ 2 = omega arith in
+    let hears : encoder_with e.parameters left right ≡ encoder_after n e input =
+    subst₂ (λ k x. encoder_with e.parameters left right ≡ encoder_after k x input) h (held e none two) c.encode_frames.ensures.encoder in
+    let writes : filled ≡ pack_all e.parameters (encoded_frames n e input) ++ drop (n * frame_length e.parameters) output =
+    subst₂
+    (λ k x. filled ≡ pack_all e.parameters (encoded_frames k x input) ++ drop (k * frame_length e.parameters) output)
+    h (held e none two) c.encode_frames.ensures.output in
+    let consumes = ap₂ ◌*◌ h c.frame_samples-samples.ensures in
+    let produces = ap₂ ◌*◌ h c.frame_length-length.ensures in
+    rw (
+      c.requires,
+      le-ltb (length output) (frame_length e.parameters) (omega (arith, c.if-output-length.false, c.frame_length-length.ensures)),
+    )
+    (λ i. record { answer = gives (record { consumed = consumes i; produced = produces i }); encoder = hears i; output = writes i })
