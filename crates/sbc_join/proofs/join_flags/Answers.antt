@@ -23,5 +23,6 @@ loop-s-preserved c = (
 pub returns : goal.returns
 returns c =
     let e : c.loop-s.s ≡ c.args.subbands - 1 = omega arith in
-    c.loop-s.invariant.1 ∙ ap (λ (n : ℕ). build 8 (below n (flag_at c.args.left.now c.args.right.now c.args.sums.now c.args.differences.now))) e
+    let flags = flag_at c.args.left.now c.args.right.now c.args.sums.now c.args.differences.now in
+    c.loop-s.invariant.1 ∙ ap (λ (n : ℕ). build 8 (below n flags)) e
     ∙ flags-all c.args.left.now c.args.right.now c.args.sums.now c.args.differences.now c.args.subbands (omega arith)

@@ -13,7 +13,8 @@ pub returns-then-writer-gt0 : goal.returns-then-writer-gt0
 returns-then-writer-gt0 c =
     let kept : length c.put.new.bytes ≡ length c.args.bytes.now = c.put.auto.bytes in
     finished-zeros c.args.bytes.now c.put.new.bytes (λ k. omega (arith, c.type_inv.bytes k)) kept c.args.writer c.put.result
-    (omega (arith, c.requires.0, c.requires.1)) (omega (arith, c.requires.0)) (omega (arith, c.put.ensures.ready, kept, c.requires.0, c.requires.1))
+    (omega (arith, c.requires.0, c.requires.1)) (omega (arith, c.requires.0))
+    (omega (arith, c.put.ensures.ready, kept, c.requires.0, c.requires.1))
     (omega (arith, c.put.ensures.ready, kept, c.requires.0, c.requires.1)) c.put.ensures.written
 
 pub returns-else-writer-gt0 : goal.returns-else-writer-gt0

@@ -9,7 +9,8 @@ use Rattle.sbc_write.proofs.put.Given as goal
 
 abbrev pub invariant-loop-held : goal.invariant-loop-held
 invariant-loop-held l =
-    (l.held ≤ 23) × (l.bits < 2 ^ l.held) × (length l.bytes ≡ length l.initial.bytes) × (8 * l.at + l.held ≡ 8 * l.initial.at + l.initial.held)
+    (l.held ≤ 23) × (l.bits < 2 ^ l.held) × (length l.bytes ≡ length l.initial.bytes)
+    × (8 * l.at + l.held ≡ 8 * l.initial.at + l.initial.held)
     × (bits_in l.bytes (record { at = l.at; held = l.held; bits = l.bits })
     ≡ bits_in l.initial.bytes (record { at = l.initial.at; held = l.initial.held; bits = l.initial.bits }))
     × (drop l.at l.bytes ≡ drop l.at l.initial.bytes)

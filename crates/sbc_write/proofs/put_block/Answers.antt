@@ -70,8 +70,8 @@ loop-s-preserved c =
             put.ready.0,
             omega (arith, more, put.ready.1, v.3),
             step _ (put.written ∙ ap (λ (q : ℕ). mid ++ bits_of width q) same),
-            behind_more c.loop-s.next.at w.put-next.result.at c.args.bytes.now c.loop-s.bytes _ (omega (arith, put.ready.0, put.ready.1, v.2)) v.5
-                put.ready.2,
+            behind_more c.loop-s.next.at w.put-next.result.at c.args.bytes.now c.loop-s.bytes _
+                (omega (arith, put.ready.0, put.ready.1, v.2)) v.5 put.ready.2,
           )
       | else-width-ne0 w ↦
           let none : width ≡ 0 = omega (arith, w.if-width-ne0.false) in
