@@ -1,6 +1,7 @@
 // An encoder as a struct of numbers, and the encoder's calls on it, by value; `sbc_abi` has them on a state that is lent. Their definitions stand in
 // specs/.
 #![tactic(auto)]
+
 ghost use Rattle.std.specs.Prelude.{◌≡◌};
 ghost use Rattle.sbc_encoder.specs.Encode.{encode};
 ghost use Rattle.abi_encoder.specs.Encoder.{encoder_in, state_of, told_encode, after_encode, encode_state, create_state, reset_state};
