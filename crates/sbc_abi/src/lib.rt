@@ -11,6 +11,7 @@
 // no other thread and no signal handler writes what is lent, or reads what is lent to be written; what is read is initialised. Padding
 // in a struct has no meaning and is not kept.
 #![tactic(auto)]
+
 mod decoder;
 mod encoder;
 
