@@ -203,6 +203,7 @@ impl SbcParameters {
     }
 
     // Whether each field has a value that a header can say.
+    #[tactic(auto, using(crate::proofs::Accepted::low_bitpool))]
     fn has_listed_fields(self) -> bool
         ensures { result ≡ all_of (field_tests self) }
     {

@@ -2,7 +2,7 @@
 -- Assumes nothing.
 use mathlib.Core.Path.{sym, ◌∙◌}
 use native.Mathlib.Omega.{arith}
-use borrow.Author.Tests.{le-leb, lt-leb, lt-ltb}
+use borrow.Author.Tests.{le-leb, lt-ltb}
 use Rattle.laws.specs.Lists.{all_of}
 use Rattle.laws.proofs.Tests.{all-false, and-true}
 use Rattle.sbc_parameters.specs.Parameters.{sample_rates, block_counts, subband_counts, field_tests}
@@ -26,12 +26,6 @@ returns-then-not-is_listed-3 c =
     let p = c.args.self in
     sym (all-false (field_tests p) 2 (sym c.is_listed-3.ensures ∙ c.if-not-is_listed-3.true))
 
-pub returns-then-bitpool-lt2 : goal.returns-then-bitpool-lt2
-unfolding field_tests
-returns-then-bitpool-lt2 c =
-    let p = c.args.self in
-    sym (all-false (field_tests p) 3 (lt-leb 2 p.bitpool (omega (arith, c.wide-bitpool.ensures.0, c.if-bitpool-lt2.true))))
-
 pub returns : goal.returns
 unfolding all_of field_tests sample_rates block_counts subband_counts
 returns c =
@@ -39,6 +33,6 @@ returns c =
     let blocks = sym c.is_listed-2.ensures ∙ c.if-not-is_listed-2.false in
     let subbands = sym c.is_listed-3.ensures ∙ c.if-not-is_listed-3.false in
     let p = c.args.self in
-    let low = le-leb 2 p.bitpool (omega (arith, c.wide-bitpool.ensures.0, c.if-bitpool-lt2.false)) in
+    let low = le-leb 2 p.bitpool (omega (arith, c.wide-bitpool.ensures.0)) in
     let byte = lt-ltb p.bitpool 256 (omega (arith, c.wide-bitpool.ensures)) in
     rw (rate, blocks, subbands, low, byte, and-true, ← c.maximum_bitpool.ensures, ← c.wide-bitpool.ensures.0)
