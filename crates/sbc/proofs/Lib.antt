@@ -5,6 +5,10 @@ pub mod Looking
 pub mod Accepted
 pub mod NextCall
 pub mod Untouched
+pub mod Faults
+pub mod Following
+pub mod Reaching
+pub mod Refusals
 pub mod Played
 pub mod Heard
 pub mod Agreement
