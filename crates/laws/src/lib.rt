@@ -60,6 +60,7 @@ pub fn shift_down(x: i64, bits: u32) -> i32
 }
 
 // The nearest i32.
+#[tactic(auto, unfolding(crate::specs::Integers::clamp_z))]
 pub fn clamp_i32(x: i64) -> i32
     ensures { result ≡ clamp_z w32 x }
 {
@@ -73,6 +74,7 @@ pub fn clamp_i32(x: i64) -> i32
 }
 
 // The nearest i16.
+#[tactic(auto, unfolding(crate::specs::Integers::clamp_z))]
 pub fn clamp_i16(x: i64) -> i16
     ensures { result ≡ clamp_z w16 x }
 {
