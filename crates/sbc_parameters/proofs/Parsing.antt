@@ -28,6 +28,8 @@ pub parse-short : (bytes : List ℕ) → length bytes < 3 → parse bytes ≡ re
 unfolding parse
 parse-short bytes l = rw (lt-ltb (length bytes) 3 l)
 
+pub ruleset short_header = (parse-short)
+
 pub parse-msbc : (bytes : List ℕ) → 3 ≤ length bytes → get_or bytes 0 0 ≡ 0xAD → parse bytes ≡ gives msbc
 unfolding parse
 parse-msbc bytes l e = rw (le-ltb (length bytes) 3 l, e)

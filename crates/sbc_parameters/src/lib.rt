@@ -144,6 +144,7 @@ impl SbcParameters {
     }
 
     // Reads the parameters from the first bytes of a frame.
+    #[tactic(auto, using(crate::proofs::Parsing::short_header), unfolding(crate::specs::Header::told_parsed))]
     pub fn parse(header: &[u8]) -> Parsed
         ensures { told_parsed result ≡ parse header.now }
     {

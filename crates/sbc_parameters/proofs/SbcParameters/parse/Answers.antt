@@ -6,25 +6,19 @@ use Rattle.std.specs.Prelude.{if◌then◌else◌}
 use Rattle.laws.specs.Answers.{gives, refuses}
 use Rattle.sbc_parameters.specs.Parameters.{msbc, accepted}
 use Rattle.sbc_parameters.specs.Header.{told_parsed, parse}
-use Rattle.sbc_parameters.proofs.Parsing.{parse-short, parse-msbc, parse-fields, parse-other}
+use Rattle.sbc_parameters.proofs.Parsing.{parse-msbc, parse-fields, parse-other}
 use Rattle.sbc_parameters.proofs.SbcParameters.parse.Goals as goal
-
-pub returns-then-header-lt3 : goal.returns-then-header-lt3
-unfolding told_parsed
-returns-then-header-lt3 c = sym (parse-short c.args.header.now (omega (arith, c.if-header-lt3.true)))
 
 pub returns-then-header : goal.returns-then-header
 unfolding told_parsed msbc
-returns-then-header c = sym (parse-msbc c.args.header.now (omega (arith, c.if-header-lt3.false)) c.if-header.true)
+returns-then-header c = sym (parse-msbc c.args.header.now (omega arith) c.if-header.true)
 
 pub returns-then-is_accepted : goal.returns-then-is_accepted
 unfolding told_parsed
 returns-then-is_accepted c =
     let behind : let p = c.from_settings-parameters.result in
     parse c.args.header.now ≡ (if accepted p then gives p else refuses 2) =
-    let third = c in
-    let bytes = third.args.header.now in
-    rw c.from_settings-parameters.ensures (parse-fields bytes (omega (arith, third.if-header-lt3.false)) third.if-header-2.true) in
+    rw c.from_settings-parameters.ensures (parse-fields c.args.header.now (omega arith) c.if-header-2.true) in
     sym (rw (sym c.is_accepted.ensures ∙ c.if-is_accepted.true) at behind)
 
 pub returns-else-is_accepted : goal.returns-else-is_accepted
@@ -32,13 +26,11 @@ unfolding told_parsed
 returns-else-is_accepted c =
     let behind : let p = c.from_settings-parameters.result in
     parse c.args.header.now ≡ (if accepted p then gives p else refuses 2) =
-    let third = c in
-    let bytes = third.args.header.now in
-    rw c.from_settings-parameters.ensures (parse-fields bytes (omega (arith, third.if-header-lt3.false)) third.if-header-2.true) in
+    rw c.from_settings-parameters.ensures (parse-fields c.args.header.now (omega arith) c.if-header-2.true) in
     sym (rw (sym c.is_accepted.ensures ∙ c.if-is_accepted.false) at behind)
 
 pub returns-else-header-2 : goal.returns-else-header-2
 unfolding told_parsed
 returns-else-header-2 c =
     let bytes = c.args.header.now in
-    sym (parse-other bytes (omega (arith, c.if-header-lt3.false)) c.if-header.false c.if-header-2.false)
+    sym (parse-other bytes (omega arith) c.if-header.false c.if-header-2.false)
