@@ -1,3 +1,3 @@
-// The SBC and mSBC codec as a whole. Its calls are those of the crates sbc_decoder and sbc_encoder; here stand the laws of every call and of whole lists
-// of calls, with the definition of the two languages in specs/.
+// The SBC and mSBC codec as a whole. Its calls are those of the crates sbc_decoder and sbc_encoder; specs/ says what holds of
+// every call (demand 1) and of whole lists of calls (the two languages of demand 3), and proofs/ proves it.
 #![tactic(auto)]

@@ -1,5 +1,5 @@
 /*
- * The proved SBC and mSBC codec for C: declares the functions of libsbc_abi.a, which `rt staticlib sbc_abi` writes.
+ * The proved SBC and mSBC codec for C: declares the functions of libsbc_abi.a, which `rt lib` in crates/sbc_abi writes.
  *
  * The caller owns every state and every buffer; nothing is allocated, kept or freed, and there is no global state. A call gives back refusal 0, or
  * the number of its refusal, and a refused call changes nothing: neither the state nor the output. Samples are 16 bits, the two channels' alternating, left

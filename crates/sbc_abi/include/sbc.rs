@@ -1,4 +1,4 @@
-//! The proved SBC and mSBC codec for Rust: safe calls over libsbc_abi.a, which `rt staticlib sbc_abi` writes. `sbc.h` says what is proved, and what is
+//! The proved SBC and mSBC codec for Rust: safe calls over libsbc_abi.a, which `rt lib` in crates/sbc_abi writes. `sbc.h` says what is proved, and what is
 //! assumed of a caller. Of that, Rust's references and slices give all that concerns pointers, lengths, overlap and threads; what is left is x86-64
 //! Linux, and that the structs below have the fields of `sbc.h` in its order.
 

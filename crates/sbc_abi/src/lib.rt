@@ -1,4 +1,4 @@
-// The codec for C and Rust, as a static library (`rt staticlib sbc_abi`): the calls of the decoder, of the encoder and on parameters, on numbers,
+// The codec for C and Rust, as a static library (`rt lib` in crates/sbc_abi): the calls of the decoder, of the encoder and on parameters, on numbers,
 // slices and structs of numbers. include/sbc.h declares them for C, and include/sbc.rs has safe calls over them for Rust.
 //
 // No enum may cross to C, so a state is a struct of the numbers that stand for it (`abi_decoder`, `abi_encoder`). The caller owns it and lends it by

@@ -10,7 +10,7 @@ use lib.Dec.{ltb}
 use lib.IntN.{ℤ}
 use lib.ListN.{length, drop, length-append, length-drop}
 use lib.Seq.{drop_at, drop-drop}
-use borrow.Author.Tests.{ltb-true, ltb-false}
+use borrow.Author.Tests.{lt-ltb, ltb-true, ltb-false}
 use Rattle.laws.specs.Answers.{gives, refuses}
 use Rattle.laws.proofs.Cases.{by-test}
 use Rattle.sbc_parameters.specs.Parameters.{accepted}
@@ -78,6 +78,12 @@ encode-cases P e pcm output none short long =
     (λ l. short a (ltb-true (length output) (frame_length e.parameters) l))
     (λ l. long a (ltb-false (length output) (frame_length e.parameters) l)))
     none
+
+-- an output under one frame
+pub encode_short : (e : SbcEncoder) (pcm : List ℤ) (output : List ℕ) → accepted e.parameters ≡ true → length output < frame_length e.parameters
+    → encode e pcm output ≡ record { answer = refuses 5; encoder = e; output = output }
+unfolding encode
+encode_short e pcm output a h = rw (a, lt-ltb (length output) (frame_length e.parameters) h)
 
 -- ---- one more frame at the end: it comes from the encoder after n frames and the samples behind n frames
 

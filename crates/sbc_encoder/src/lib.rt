@@ -83,6 +83,7 @@ impl SbcEncoder {
         }
     }
 
+    #[tactic(auto, using(crate::proofs::Writing::encode_short), unfolding(crate::specs::Told::told_encoded, codec::specs::Answers::told_coded))]
     fn encode_accepted(self, input: &[i16], output: &mut [u8]) -> EncodeResult
         requires { accepted self.parameters ≡ true }
         ensures { told_encoded result output.new ≡ encode self input.now output.old }

@@ -17,45 +17,12 @@ use Rattle.sbc_encoder.proofs.Framing.{Framing, no_frame, next-frame}
 use Rattle.laws.proofs.Parts.{tail-part}
 use Rattle.sbc_encoder.proofs.encode_frames.Goals as goal
 
--- n numbers a turn, of which count turns have room in m: the turn i has room, and so have those before it
+-- n numbers a turn, of which count turns have room in m: the turn i has room
 room : (count i n k m : ℕ) → n ≡ k → count * k ≤ m → i + 1 ≤ count → (i + 1) * n ≤ m
 room count i n k m e fits h = le_trans (mul-le-mul_right n h) (subst (λ x. count * x ≤ m) (sym e) fits)
 
-starts : (count i n k m : ℕ) → n ≡ k → count * k ≤ m → i + 1 ≤ count → i * n ≤ m
-starts count i n k m e fits h = omega (arith, room count i n k m e fits h, suc-mul i n)
-
 pub loop-i-init : goal.loop-i-init
 loop-i-init c = (omega arith, no_frame _ _ _ _ _)
-
-pub overflow_mul-i : goal.overflow_mul-i
-overflow_mul-i c =
-    let h : c.loop-i.i * c.frame_samples-samples.result ≤ length c.args.input.now =
-    starts c.args.count c.loop-i.i _ _ _ c.frame_samples-samples.ensures c.requires.1 (omega arith) in
-    omega (arith, h)
-
-pub offset_bounds-input-i : goal.offset_bounds-input-i
-offset_bounds-input-i c =
-    let h : c.loop-i.i * c.frame_samples-samples.result ≤ length c.args.input.now =
-    starts c.args.count c.loop-i.i _ _ _ c.frame_samples-samples.ensures c.requires.1 (omega arith) in
-    omega (arith, h)
-
-pub slice_bounds-encode_frame-count : goal.slice_bounds-encode_frame-count
-slice_bounds-encode_frame-count c = starts c.args.count c.loop-i.i _ _ _ c.frame_samples-samples.ensures c.requires.1 (omega arith)
-
-pub overflow_mul-i-in-loop-i : goal.overflow_mul-i-in-loop-i
-overflow_mul-i-in-loop-i c =
-    let h : c.loop-i.i * c.frame_length-length.result ≤ length c.args.output.now =
-    starts c.args.count c.loop-i.i _ _ _ c.frame_length-length.ensures c.requires.2 (omega arith) in
-    omega (arith, h)
-
-pub overflow_mul-i-in-loop-i-2 : goal.overflow_mul-i-in-loop-i-2
-overflow_mul-i-in-loop-i-2 c =
-    let h : (c.loop-i.i + 1) * c.frame_length-length.result ≤ length c.args.output.now =
-    room c.args.count c.loop-i.i _ _ _ c.frame_length-length.ensures c.requires.2 (omega arith) in
-    omega (arith, h)
-
-pub slice_bounds-encode_frame-count-in-loop-i : goal.slice_bounds-encode_frame-count-in-loop-i
-slice_bounds-encode_frame-count-in-loop-i c = omega (arith, suc-mul c.loop-i.i c.frame_length-length.result)
 
 pub encode_frame-requires : goal.encode_frame-requires
 encode_frame-requires c =

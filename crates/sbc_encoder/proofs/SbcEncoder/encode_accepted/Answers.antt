@@ -6,7 +6,7 @@ use mathlib.Core.List.{List, [], ◌++◌}
 use native.Mathlib.Omega.{arith}
 use lib.IntN.{ℤ}
 use lib.ListN.{length, get_or, drop}
-use borrow.Author.Tests.{lt-ltb, le-ltb}
+use borrow.Author.Tests.{le-ltb}
 use Rattle.laws.specs.Answers.{gives}
 use Rattle.laws.specs.Lists.{collect, build}
 use Rattle.laws.proofs.Lists.{build-is}
@@ -52,15 +52,6 @@ reads e input output n h =
 fills : (e : SbcEncoder) (input : List ℤ) (output : List ℕ) (n : ℕ) → n ≡ frames e input output
     → n * frame_length e.parameters ≤ length output
 fills e input output n h = subst (λ n. n * frame_length e.parameters ≤ length output) (sym h) (frames-fit e input output)
-
-pub returns-then-output-length : goal.returns-then-output-length
-unfolding told_coded told_encoded encode
-returns-then-output-length c =
-    let e = c.args.self in
-    rw (
-      c.requires,
-      lt-ltb (length c.args.output.now) (frame_length e.parameters) (omega (arith, c.if-output-length.true, c.frame_length-length.ensures)),
-    )
 
 pub nonzero_div-input : goal.nonzero_div-input
 nonzero_div-input c = omega (arith, c.frame_samples-samples.ensures, (frame-samples-range c.args.self.parameters c.requires).0)
@@ -118,6 +109,6 @@ returns c =
     let produces = ap₂ ◌*◌ h c.frame_length-length.ensures in
     rw (
       c.requires,
-      le-ltb (length output) (frame_length e.parameters) (omega (arith, c.if-output-length.false, c.frame_length-length.ensures)),
+      le-ltb (length output) (frame_length e.parameters) (omega (arith, c.frame_length-length.ensures)),
     )
     (λ i. record { answer = gives (record { consumed = consumes i; produced = produces i }); encoder = hears i; output = writes i })
