@@ -1,2 +1,3 @@
-// No code: proofs of thin calls on a state that is lent by `&mut`, for any state, which the crates of such states cite.
+// No code: proofs of thin calls on a state that is lent by `&mut`, for any state, by a walk of their code. No crate cites them: the check proves such
+// calls by itself.
 #![tactic(auto)]
