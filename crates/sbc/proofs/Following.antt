@@ -20,7 +20,7 @@ use Rattle.sbc_decoder.specs.Decode.{unchanged, turn_by, decode_next, Turns, aft
 use Rattle.sbc_decoder.specs.declared.SbcDecoder.{SbcDecoder}
 use Rattle.sbc_decoder.proofs.Answering.{given-progress}
 use Rattle.sbc_decoder.proofs.Taking.{kept, length-next, drop-both, length_some, decode-unrolled, stopped, decode-induction}
-use Rattle.sbc.specs.Refusals.{Stopped, at_a_fault, at_the_end}
+use Rattle.sbc.specs.Refusals.{Stopped, at_a_fault, at_no_frame}
 
 -- what the tests say, and the turns of a call that takes no frame
 data Stops (d : SbcDecoder) (output : List ℤ) : Decision → Turns → Type 0 where
@@ -73,7 +73,7 @@ stops-stopped : {d : SbcDecoder} {output : List ℤ} {x : Decision} {r : Turns} 
     → Stopped d output x (record { answer = answer_of r.progress r.ending; decoder = r.decoder; output = r.output })
 unfolding answer_of refused_after progress_of
 stops-stopped (stops_fault n) = at_a_fault n
-stops-stopped stops_end = at_the_end
+stops-stopped stops_end = at_no_frame
 
 -- it meets what stopped the call before it
 pub next-decode-meets : (d : SbcDecoder) (input : List ℕ) (output : List ℤ) (progress : Progress)

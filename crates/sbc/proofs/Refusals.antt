@@ -67,6 +67,15 @@ seek-faults d p position n h a =
       λ q. is ∙ test.1 (q.0, le-ltb offset (2 ^ 64) q.1),
     )
 
+refused-seek : (d : SbcDecoder) (p : SbcParameters) (position : ℕ) → d.parameters ≡ Some p → accepted p ≡ false
+    → (seek d position).answer ≡ refuses 3
+unfolding seek_request request_in
+refused-seek d p position h a =
+    let offset = seek_offset p position in
+    let request = request_of offset (seek_skip p position) in
+    seek-answers d position ∙ ap (λ last. seek_request last position) h
+    ∙ ap (λ (t : Bool). if t && ltb offset (2 ^ 64) then gives request else refuses 3) a
+
 pub first-fault : FirstFault
 first-fault =
     record {
@@ -77,6 +86,7 @@ first-fault =
       of_new = new-faults;
       of_validate = validate-faults;
       of_refused_set = λ e pcm output a. ap (λ r. r.answer) (encode-no-set e pcm output a);
+      of_refused_seek = refused-seek;
     }
 
 pub refused-unchanged : RefusedUnchanged

@@ -1,5 +1,7 @@
--- Demand 1 of the calls: which refusal is answered, that it changes nothing, that the next call meets the fault, and what a call writes.
--- From document 01, "Calls" and "Given back", whose sentences stand in quotes above what they became.
+-- Demand 1 (README.md, "Refusals") of the decoder's and the encoder's calls, and of validate: which refusal is answered, that it changes
+-- nothing, that the next call meets the fault, and what a call writes. `parse` has no state, and its refusals are those of its contract
+-- (`Header.parse`).
+-- From document 01, "Calls" and "Given back". A sentence of it stands in quotes above what it became, or above the part that is said here.
 use Rattle.std.specs.Prelude.{ℕ, ◌^◌, ◌≤◌, ◌<◌, max, ◌↔◌, ◌≡◌, true, false, List, ltb, ℤ, length, drop, if◌then◌else◌}
 use Rattle.laws.specs.Answers.{gives, refuses}
 use Rattle.sbc_parameters.specs.Parameters.{accepted, validate}
@@ -31,11 +33,15 @@ pub record FirstFault : Type 0 where
   -- "encode: output under one frame, even with no input"
   pub of_encode : (e : SbcEncoder) (pcm : List ℤ) (output : List ℕ) (n : ℕ) → accepted e.parameters ≡ true
       → ((encode e pcm output).answer ≡ refuses n) ↔ ((n ≡ 5) × (length output < frame_length e.parameters))
-  -- "new encoder or validate: set not accepted"; and so every encode call of the encoder that is given beside that refusal
+  -- "new encoder or validate: set not accepted"
   pub of_new : (p : SbcParameters) (n : ℕ) → (new_encoder p ≡ refuses n) ↔ ((n ≡ 3) × (accepted p ≡ false))
   pub of_validate : (p : SbcParameters) (n : ℕ) → (validate p ≡ refuses n) ↔ ((n ≡ 3) × (accepted p ≡ false))
+  -- 01 has no encoder and no decoder of such a set. Ours can hold one (docs/DIFFERENCES.md, "Settled for the calls"), and then refuses
+  -- likewise
   pub of_refused_set : (e : SbcEncoder) (pcm : List ℤ) (output : List ℕ) → accepted e.parameters ≡ false
       → (encode e pcm output).answer ≡ refuses 3
+  pub of_refused_seek : (d : SbcDecoder) (p : SbcParameters) (position : ℕ) → d.parameters ≡ Some p → accepted p ≡ false
+      → (seek d position).answer ≡ refuses 3
 
 -- ---- "Unchanged" covers state and every lent buffer; a new encoder and validate are given neither
 
@@ -46,14 +52,14 @@ pub record RefusedUnchanged : Type 0 where
   pub of_encode : (e : SbcEncoder) (pcm : List ℤ) (output : List ℕ) (n : ℕ) → (encode e pcm output).answer ≡ refuses n
       → ((encode e pcm output).encoder ≡ e) × ((encode e pcm output).output ≡ output)
 
--- ---- "If a frame was accepted earlier in the call, the progress is returned instead": the next call, on the rest of both buffers and with
--- the state as it was left, answers the fault that stopped this one, and changes nothing
+-- ---- "If a frame was accepted earlier in the call, the progress is returned instead". Where that is so, the next call, on the rest of
+-- both buffers and with the state as it was left, answers the fault that stopped this one, and changes nothing
 
 -- what `next` says of the rest, and the decode call that it stops at once: with that refusal, or with (0, 0). That a frame is played it
 -- never says of the rest: "Decode takes frames until none is whole"
 pub data Stopped (d : SbcDecoder) (output : List ℤ) : Decision → Decoded → Type 0 where
   at_a_fault : (n : ℕ) → Stopped d output (refusal n) (record { answer = refuses n; decoder = d; output = output })
-  at_the_end : Stopped d output no_frame (record { answer = gives (progress_of 0 0); decoder = d; output = output })
+  at_no_frame : Stopped d output no_frame (record { answer = gives (progress_of 0 0); decoder = d; output = output })
 
 pub record NextCallMeetsFault : Type 0 where
   pub of_decode : (d : SbcDecoder) (input : List ℕ) (output : List ℤ) (progress : Progress)
@@ -79,16 +85,16 @@ abbrev pub KeptFrom : {A : Type 0} → ℕ → List A → List A → Type 0
 KeptFrom k output exit = (length exit ≡ length output) × (drop k exit ≡ drop k output)
 
 pub record WritesOnly : Type 0 where
-  -- "A frame writes the first `frame_samples` places left": `reach` is the place behind the last of them
+  -- "A frame writes the first `frame_samples` places left": nothing behind the last of them, which `reach` counts
   pub of_decode : (d : SbcDecoder) (input : List ℕ) (output : List ℤ)
       → KeptFrom (reach d input output) output (decode d input output).output
   -- with no pending skip they are the produced ones
   pub unskipped : (d : SbcDecoder) (input : List ℕ) (output : List ℤ) (progress : Progress)
       → (decode d input output).answer ≡ gives progress → d.skip ≡ 0 → reach d input output ≡ progress.produced
-  -- with one also "the places behind them, up to `frame_samples`", where a frame has at most 256
+  -- with one also "the places behind them, up to `frame_samples`", which is at most 256 for every frame
   pub skipped : (d : SbcDecoder) (input : List ℕ) (output : List ℤ) (progress : Progress) → (decode d input output).answer ≡ gives progress
       → (progress.produced ≤ reach d input output) × (reach d input output ≤ max progress.produced 256)
-  -- "Encode writes as many frames as both buffers hold"
+  -- "Encode writes as many frames as both buffers hold": nothing behind those that it says it produced
   pub of_encode : (e : SbcEncoder) (pcm : List ℤ) (output : List ℕ) (progress : Progress) → (encode e pcm output).answer ≡ gives progress
       → KeptFrom progress.produced output (encode e pcm output).output
 
