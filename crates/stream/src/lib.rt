@@ -1,11 +1,14 @@
-// What a program that reads a stream of any length through one buffer shares with others: reading on, keeping what is not used yet, and
-// saying why it stops.
+// What a program that reads a stream of any length through one buffer shares with others: reading on, keeping what is not used yet, saying
+// why it stops, and in `running` the whole run.
 #![tactic(auto)]
 
 ghost use Rattle.std.specs.Prelude.{◌≡◌, ◌++◌, ◌+◌, ◌≤◌, length, take, drop};
 ghost use Rattle.std.specs.Io.KnownBytes.{Consumes};
 ghost use Rattle.stream.specs.Kept.{kept_count, kept};
 
+mod running;
+
+pub use running::{Coder, Stop, run, told};
 use std::io;
 use std::io::Read;
 
