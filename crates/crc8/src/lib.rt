@@ -5,8 +5,6 @@ ghost use Rattle.std.specs.Prelude.{◌≡◌, take};
 ghost use Rattle.laws.specs.Bits.{odd, bits_of, bits_of_bytes};
 ghost use Rattle.crc8.specs.Checksum.{crc_step, crc_bits, checksum};
 
-use laws::least;
-
 const POLYNOMIAL: u8 = 0x1D;
 
 // What the register holds before the first bit of a frame.
@@ -55,11 +53,11 @@ pub fn checksum(frame: &[u8], side_bits: usize) -> u8
     ensures { result ≡ checksum frame.now side_bits }
 {
     let length = frame.len();
-    let from = least(1, length);
-    let to = least(3, length);
+    let from = length.min(1);
+    let to = length.min(3);
     let header = update(START, &frame[from..to]);
-    let side = least(4, length);
-    let end = least(4 + side_bits / 8, length);
+    let side = length.min(4);
+    let end = length.min(4 + side_bits / 8);
     let whole = update(header, &frame[side..end]);
     if end < length {
         return update_bits(whole, frame[end], (side_bits % 8) as u32);

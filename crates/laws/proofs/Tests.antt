@@ -1,16 +1,17 @@
 -- Laws of tests: conjunctions, lists of tests, and the place of a number in a list.
 -- Assumes nothing.
-use Prim.Native.Nat.{ℕ, zero, suc, ◌+◌, ◌<◌, ◌≤◌}
+use Prim.Native.Nat.{ℕ, zero, suc, ◌+◌, ◌<◌}
 use mathlib.Core.Path.{◌≡◌, refl, sym, ap, ◌∙◌}
-use mathlib.Core.Bool.{Bool, true, false, ◌&&◌, false≢true}
+use mathlib.Core.Bool.{Bool, true, false, ◌&&◌, ◌||◌, false≢true}
 use mathlib.Core.List.{List, [], ◌∷◌}
-use native.Mathlib.Numerals.{add-one}
 use native.Mathlib.Omega.{arith}
 use lib.Dec.{eqb}
-use lib.ListN.{length, get_or, drop, drop_of_length-le}
-use lib.Seq.{drop-cons}
+use lib.ListN.{length, get_or}
 use borrow.Author.Tests.{eqb-true, eq-eqb, ne_eqb, ltb-true}
 use Rattle.std.specs.Prelude.{if◌then◌else◌}
+use Rattle.std.specs.List.{position_or_len, list_any}
+use Rattle.std.proofs.lemmas.Bool.Decides.{nat_tests}
+use Rattle.std.proofs.lemmas.List.Recursion.{is_position_or_len, same_from_clauses}
 use Rattle.laws.specs.Lists.{all_of, index_of, listed, place_in}
 
 -- ---- conjunctions
@@ -46,27 +47,19 @@ index-cons : (x y : ℕ) (ys : List ℕ) (t : Bool) → eqb x y ≡ t → index_
 unfolding index_of
 index-cons x y ys t e = rw e
 
-module _ (x : ℕ) (xs : List ℕ) (i : ℕ) where
-  -- a search that has come to place i: found there, not there, and at the end
-  pub index-here : i < length xs → x ≡ get_or xs i 0 → index_of x (drop i xs) ≡ 0
-  index-here h e = ap (index_of x) (drop-cons xs i 0 h) ∙ index-cons x (get_or xs i 0) (drop (suc i) xs) true (eq-eqb x (get_or xs i 0) e)
+-- the library's words for them: the first place at which a test for the number passes, and whether it passes at all
+pub index_is : (x : ℕ) (ys : List ℕ) → index_of x ys ≡ position_or_len (eqb x) ys
+unfolding index_of
+index_is x = is_position_or_len (index_of x) (eqb x) refl
+    (λ y ys. let one-more : suc (index_of x ys) ≡ 1 + index_of x ys = omega arith in rw (← one-more) (index-cons x y ys (eqb x y) refl))
 
-  pub index-next : i < length xs → (x ≡ get_or xs i 0 → ⊥) → index_of x (drop i xs) ≡ suc (index_of x (drop (i + 1) xs))
-  index-next h e =
-      ap (index_of x) (drop-cons xs i 0 h) ∙ index-cons x (get_or xs i 0) (drop (suc i) xs) false (ne_eqb x (get_or xs i 0) e)
-      ∙ ap (λ (k : ℕ). suc (index_of x (drop k xs))) (sym (add-one i))
-
-  pub index-end : length xs ≤ i → index_of x (drop i xs) ≡ 0
-  unfolding index_of
-  index-end h = ap (index_of x) (drop_of_length-le xs h)
-
-pub index-at-most : (x : ℕ) (ys : List ℕ) → index_of x ys ≤ length ys
-index-at-most x [] = omega (arith, index-end x [] 0 (omega arith))
-index-at-most x (y ∷ ys) = go (eqb x y) refl (index-at-most x ys)
+pub listed_is : (x : ℕ) (ys : List ℕ) → listed x ys ≡ list_any (λ y. eqb y x) ys
+unfolding listed index_of
+listed_is x ys = same_from_clauses (listed x) (list_any (λ y. eqb y x)) (λ y b. eqb y x || b) refl (λ y ys. go y ys (eqb x y) refl) (λ y ys. refl) ys
   where
-    go : (t : Bool) → eqb x y ≡ t → index_of x ys ≤ length ys → index_of x (y ∷ ys) ≤ suc (length ys)
-    go true e h = omega (arith, index-cons x y ys true e)
-    go false e h = omega (arith, index-cons x y ys false e)
+    go : (y : ℕ) (ys : List ℕ) (t : Bool) → eqb x y ≡ t → listed x (y ∷ ys) ≡ (eqb y x || listed x ys)
+    go y ys true e = rw (index-cons x y ys true e, eq-eqb y x (sym (eqb-true x y e))) (grind (arith, nat_tests))
+    go y ys false e = rw (index-cons x y ys false e, ne_eqb y x (λ q. false≢true (sym e ∙ eq-eqb x y (sym q)))) (grind (arith, nat_tests))
 
 -- a number of the list stands at its place
 back : (x : ℕ) (ys : List ℕ) → index_of x ys < length ys → get_or ys (index_of x ys) 0 ≡ x

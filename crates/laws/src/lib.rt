@@ -1,7 +1,7 @@
 // Laws on integers, sums, lists and bit fields, in specs/ and proofs/, and small functions on integers and lists. Nothing here knows of audio.
 #![tactic(auto)]
 
-ghost use Rattle.std.specs.Prelude.{◌≡◌, ◌^◌, ◌<◌, ◌≤◌, min, max, ◌+ℤ◌, ◌*ℤ◌};
+ghost use Rattle.std.specs.Prelude.{◌≡◌, ◌^◌, ◌<◌, ◌≤◌, ◌+ℤ◌, ◌*ℤ◌, if◌then◌else◌};
 ghost use Rattle.std.specs.Int.{w16, w32, w64};
 ghost use Rattle.std.proofs.Common.{SFits};
 ghost use Rattle.laws.specs.Lists.{index_of, listed, place_in};
@@ -15,32 +15,11 @@ pub fn power_of_two(exponent: u32) -> u32
     1 << exponent
 }
 
-// The lesser of two numbers.
-pub fn least(a: usize, b: usize) -> usize
-    ensures { result ≡ min a b }
-{
-    if a < b { a } else { b }
-}
-
-// The greater of two numbers.
-pub fn greater(a: u32, b: u32) -> u32
-    ensures { result ≡ max a b }
-{
-    if a < b { b } else { a }
-}
-
 // A byte as a 32-bit number; its bound is what the callers' sums rest on.
 pub fn wide(x: u8) -> u32
     ensures { (result ≡ x) × (result ≤ 255) }
 {
     x as u32
-}
-
-// x at the wider type.
-pub fn widen(x: i16) -> i32
-    ensures { result ≡ x }
-{
-    x as i32
 }
 
 // sum + a * b, where that fits.
@@ -60,61 +39,41 @@ pub fn shift_down(x: i64, bits: u32) -> i32
 }
 
 // The nearest i32.
-#[tactic(auto, unfolding(crate::specs::Integers::clamp_z))]
+#[tactic(auto, using(crate::proofs::Clamps::clamp_is), unfolding(crate::specs::Integers::clamp_z))]
 pub fn clamp_i32(x: i64) -> i32
     ensures { result ≡ clamp_z w32 x }
 {
-    if 2147483647 < x {
-        return 2147483647;
-    }
-    if x < -2147483648 {
-        return -2147483648;
-    }
-    x as i32
+    x.clamp(-2147483648, 2147483647) as i32
 }
 
 // The nearest i16.
-#[tactic(auto, unfolding(crate::specs::Integers::clamp_z))]
+#[tactic(auto, using(crate::proofs::Clamps::clamp_is), unfolding(crate::specs::Integers::clamp_z))]
 pub fn clamp_i16(x: i64) -> i16
     ensures { result ≡ clamp_z w16 x }
 {
-    if 32767 < x {
-        return 32767;
-    }
-    if x < -32768 {
-        return -32768;
-    }
-    x as i16
+    x.clamp(-32768, 32767) as i16
 }
 
-// The place of a value in a list, or the list's length where it is not in it.
-pub fn index_of(value: u32, values: &[u32]) -> usize
-    ensures { result ≡ index_of value values.now }
+// The place of a value in a list, where it is in it.
+#[tactic(auto, using(crate::proofs::Tests::index_is), unfolding(crate::specs::Lists::listed))]
+pub fn index_of(value: u32, values: &[u32]) -> Option<usize>
+    ensures { result ≡ (if listed value values.now then Some (index_of value values.now) else None) }
 {
-    let mut i = 0;
-    while i < values.len() {
-        if value == values[i] {
-            return i;
-        }
-        i += 1;
-    }
-    i
+    values.iter().position(|x| value == *x)
 }
 
 // Whether a value is in a list.
+#[tactic(auto, using(crate::proofs::Tests::listed_is))]
 pub fn is_listed(value: u32, values: &[u32]) -> bool
     ensures { result ≡ listed value values.now }
 {
-    index_of(value, values) < values.len()
+    values.contains(&value)
 }
 
 // The place of a value in a list, or 0 where it is not in it.
+#[tactic(auto, unfolding(crate::specs::Lists::place_in))]
 pub fn place_in(value: u32, values: &[u32]) -> usize
     ensures { result ≡ place_in value values.now }
 {
-    let place = index_of(value, values);
-    if place < values.len() {
-        return place;
-    }
-    0
+    index_of(value, values).unwrap_or(0)
 }

@@ -46,7 +46,7 @@ fn window_sum(history: &[i16; 80], taps: &[i32], subbands: usize, k: usize) -> i
     let mut j = 0usize;
     let mut index = k;
     while index < 10 * subbands {
-        sum = laws::multiply_add(sum, taps[index], laws::widen(history[index]));
+        sum = laws::multiply_add(sum, taps[index], i32::from(history[index]));
         j = j + 1;
         index = index + 2 * subbands;
     }

@@ -14,7 +14,6 @@ ghost use Rattle.sbc_decoder.specs.Told.{told_turn, told_decoded};
 ghost use Rattle.sbc_decoder.specs.Seek.{told_sought, reset, resumed, seek};
 
 use codec::{Coded, Error, Progress, refusal_or_progress};
-use laws::least;
 use sbc_decode_frame::{decode_frame, leave_out};
 use sbc_filterbank::Synthesis;
 use sbc_look::{Next, decide};
@@ -167,7 +166,7 @@ impl SbcDecoder {
     {
         let histories = self.start_histories(parameters);
         let synthesis = decode_frame(parameters, histories, frame, output);
-        let dropped = least(self.skip, parameters.samples_per_channel());
+        let dropped = self.skip.min(parameters.samples_per_channel());
         let gone = dropped * parameters.channels() as usize;
         let samples = parameters.frame_samples();
         leave_out(output, gone, samples);

@@ -11,7 +11,6 @@ ghost use Rattle.sbc_encoder.specs.Told.{told_created, told_encoded, encoder_wit
 ghost use Rattle.sbc_encoder.specs.Encode.{encoder_of, new_encoder, reset_encoder, encoder_after, encoded_frames, pack_all, encode};
 
 use codec::{Coded, Error, Progress};
-use laws::least;
 use sbc_encode_frame::encode_frame;
 use sbc_parameters::{SbcParameters, Validated};
 
@@ -97,7 +96,7 @@ impl SbcEncoder {
                 encoder: self,
             };
         }
-        let count = least(input.len() / samples, output.len() / length);
+        let count = (input.len() / samples).min(output.len() / length);
         let first = self.analysis[0];
         let second = self.analysis[1];
         let mut left = first.history;

@@ -6,7 +6,6 @@ ghost use Rattle.laws.specs.Lists.{build};
 ghost use Rattle.sbc_frame.specs.Arrays.{sample_in};
 ghost use Rattle.sbc_factors.specs.Factors.{maxima_in, factors_in};
 
-use laws::greater;
 use sbc_quantizer::scale_factor;
 
 // The absolute value.
@@ -26,7 +25,7 @@ fn raise(top: &[u32; 8], samples: &[i32; 128], block: usize) -> [u32; 8]
 {
     let mut higher = [0u32; 8];
     for s in 0..8 {
-        higher[s] = greater(top[s], magnitude(samples[8 * block + s]));
+        higher[s] = top[s].max(magnitude(samples[8 * block + s]));
     }
     higher
 }

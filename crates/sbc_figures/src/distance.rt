@@ -2,7 +2,6 @@
 ghost use Rattle.std.specs.Prelude.{◌≡◌, length};
 ghost use Rattle.sbc_figures.specs.Distance.{apart, unequal, differing, farthest};
 
-use laws::greater;
 
 fn apart(a: i16, b: i16) -> u32
     ensures { result ≡ apart a b }
@@ -43,7 +42,7 @@ pub fn farthest(ours: &[i16], theirs: &[i16]) -> u32
 {
     let mut top = 0;
     for i in 0..ours.len() {
-        top = greater(top, apart(ours[i], theirs[i]));
+        top = top.max(apart(ours[i], theirs[i]));
     }
     top
 }

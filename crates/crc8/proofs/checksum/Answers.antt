@@ -12,23 +12,23 @@ use Rattle.crc8.proofs.Registers.{whole_bytes, checksum-parts, rest_some, rest-n
 use Rattle.crc8.proofs.checksum.Goals as goal
 
 -- the second call of `update` gives the register after the whole bytes
-whole : (frame : List ℕ) (n from to side end header register : ℕ) → from ≡ min 1 (length frame) → to ≡ min 3 (length frame)
+whole : (frame : List ℕ) (n from to side end header register : ℕ) → from ≡ min (length frame) 1 → to ≡ min (length frame) 3
     → header ≡ crc_bits 0x0F (bits_of_bytes (take (to - from) (drop from frame)))
-    → side ≡ min 4 (length frame) → end ≡ min (4 + n / 8) (length frame)
+    → side ≡ min (length frame) 4 → end ≡ min (length frame) (4 + n / 8)
     → register ≡ crc_bits header (bits_of_bytes (take (end - side) (drop side frame))) → register ≡ whole_bytes frame n
 whole frame n from to side end header register f t g s e u =
     let h : header ≡ crc_bits 0x0F (bits_of_bytes (take 2 (drop 1 frame))) =
-    g ∙ ap (λ (l : List ℕ). crc_bits 0x0F (bits_of_bytes l)) (clip 1 2 frame from to f t) in
-    u ∙ ap₂ (λ (r : ℕ) (l : List ℕ). crc_bits r (bits_of_bytes l)) h (clip 4 (n / 8) frame side end s e)
+    g ∙ ap (λ (l : List ℕ). crc_bits 0x0F (bits_of_bytes l)) (clip 1 2 frame from to (omega (arith, f)) (omega (arith, t))) in
+    u ∙ ap₂ (λ (r : ℕ) (l : List ℕ). crc_bits r (bits_of_bytes l)) h (clip 4 (n / 8) frame side end (omega (arith, s)) (omega (arith, e)))
 
 pub returns-then-end-length : goal.returns-then-end-length
 returns-then-end-length c =
     let frame = c.args.frame.now in
     let n = c.args.side_bits in
-    let at = c.least-end in
+    let at = c.min-end in
     let e : at.result ≡ 4 + n / 8 = omega (arith, at.ensures) in
     let w : c.update-whole.result ≡ whole_bytes frame n =
-    whole frame n _ _ _ _ _ _ c.least-from.ensures c.least-to.ensures c.update-header.ensures c.least-side.ensures at.ensures
+    whole frame n _ _ _ _ _ _ c.min-from.ensures c.min-to.ensures c.update-header.ensures c.min-side.ensures at.ensures
     c.update-whole.ensures in
     let u : c.update_bits.result ≡ crc_bits c.update-whole.result (take (n % 8) (bits_of 8 (get_or frame at.result 0))) =
     c.update_bits.ensures in
@@ -39,8 +39,8 @@ pub returns : goal.returns
 returns c =
     let frame = c.args.frame.now in
     let n = c.args.side_bits in
-    let at = c.least-end in
+    let at = c.min-end in
     let w : c.update-whole.result ≡ whole_bytes frame n =
-    whole frame n _ _ _ _ _ _ c.least-from.ensures c.least-to.ensures c.update-header.ensures c.least-side.ensures at.ensures
+    whole frame n _ _ _ _ _ _ c.min-from.ensures c.min-to.ensures c.update-header.ensures c.min-side.ensures at.ensures
     c.update-whole.ensures in
     w ∙ sym (checksum-parts frame n ∙ rest-none (whole_bytes frame n) frame (4 + n / 8) (n % 8) (omega (arith, at.ensures)))

@@ -1,23 +1,15 @@
--- `index_of` meets its contract. The invariant: the place among the values that are left, and those passed, is the place.
+-- `index_of` meets its contract: the library's first place is the definition's.
 -- Assumes nothing.
-use native.Mathlib.Omega.{arith}
-use Rattle.laws.proofs.Tests.{index-here, index-next, index-end}
+use Rattle.std.proofs.Common.{rules, tests, nat_eq}
+use Rattle.std.proofs.lemmas.Iterator.{YieldsList-from_slice}
+use Rattle.std.proofs.lemmas.Iterator.Search.{position_from_yields_List}
+use Rattle.laws.specs.Lists.{listed}
+use Rattle.laws.proofs.Tests.{index_is}
 use Rattle.laws.proofs.index_of.Goals as goal
 
-pub loop-i-init : goal.loop-i-init
-loop-i-init c = (omega arith, omega arith)
-
-pub returns-then-value-values : goal.returns-then-value-values
-returns-then-value-values c =
-    omega
-    (arith, c.loop-i.invariant.1, index-here c.args.value c.args.values.now c.loop-i.i c.loop-i-test.true c.if-value-values.true)
-
-pub loop-i-preserved : goal.loop-i-preserved
-loop-i-preserved c = (
-  omega arith,
-  omega
-      (arith, c.loop-i.invariant.1, index-next c.args.value c.args.values.now c.loop-i.i c.loop-i-test.true c.if-value-values.false),
-)
-
 pub returns : goal.returns
-returns c = omega (arith, c.loop-i.invariant.1, index-end c.args.value c.args.values.now c.loop-i.i c.loop-i-test.false)
+unfolding listed
+returns c =
+    rw index_is
+    (position_from_yields_List (nat_eq c.args.value) _ _ _ c.position.ensures.ran (YieldsList-from_slice _ c.iter.ensures.rest)
+    (λ x b q k. search (rules, tests)))

@@ -21,8 +21,8 @@ loop-s-preserved c =
     let fits : FitsSigned w32 sample = search rules in
     let e : c.magnitude.result ≡ nat_abs sample = read ∙ ap nat_abs (to_z-of_z fits) in (
       omega arith,
-      row_next (raised c.args.top.now c.args.samples.now c.args.block) c.loop-s.s c.loop-s.higher c.greater.result c.loop-s.invariant.1
-          (c.greater.ensures ∙ ap (max (entry c.args.top.now c.loop-s.s)) e),
+      row_next (raised c.args.top.now c.args.samples.now c.args.block) c.loop-s.s c.loop-s.higher c.max.result c.loop-s.invariant.1
+          (c.max.ensures ∙ ap (max (entry c.args.top.now c.loop-s.s)) e),
     )
 
 pub returns : goal.returns

@@ -45,7 +45,7 @@ multiply_add-sum-requires c =
     let sample : mag (get_or c.args.history.now c.loop-index.index (pos 0)) < 2 ^ 15 = omega arith in
     let w = next c.args.subbands c.args.k c.loop-index.j c.loop-index.index c.args.history.now c.args.taps.now
     (to_z w64 c.loop-index.sum-bits)
-    c.widen.result c.requires.2 c.loop-index.invariant.1 c.loop-index.invariant.2 tap sample c.widen.type_inv c.widen.ensures in
+    c.from.result c.requires.2 c.loop-index.invariant.1 c.loop-index.invariant.2 tap sample c.from.type_inv c.from.ensures in
     summed-fits w 5 400000000 (column-bound _ c.requires.0 c.requires.1) (omega (arith, more)) (lit< tt)
 
 pub loop-index-smaller : goal.loop-index-smaller
@@ -60,7 +60,7 @@ loop-index-preserved c =
     let sample : mag (get_or c.args.history.now c.loop-index.index (pos 0)) < 2 ^ 15 = omega arith in
     let w = next c.args.subbands c.args.k c.loop-index.j c.loop-index.index c.args.history.now c.args.taps.now
     (to_z w64 c.loop-index.sum-bits)
-    c.widen.result c.requires.2 c.loop-index.invariant.1 c.loop-index.invariant.2 tap sample c.widen.type_inv c.widen.ensures in (
+    c.from.result c.requires.2 c.loop-index.invariant.1 c.loop-index.invariant.2 tap sample c.from.type_inv c.from.ensures in (
       omega (arith, more),
       window-step _ _ _ c.requires.0 c.loop-index.invariant.1,
       subst (WindowSummed c.args.subbands c.args.history.now c.args.k (c.loop-index.j + 1))

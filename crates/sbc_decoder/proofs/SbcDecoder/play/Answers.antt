@@ -44,11 +44,11 @@ overflow_mul-gone c =
     c.args.parameters in
     let d : SbcDecoder =
     c.args.self in
-    let dropped-is : c.least-dropped.result ≡ dropped p d =
-    c.least-dropped.ensures ∙ ap (min (d).skip) c.samples_per_channel.ensures in
-    let gone-is : c.least-dropped.result * c.channels.result ≡ gone p d =
+    let dropped-is : c.min-dropped.result ≡ dropped p d =
+    c.min-dropped.ensures ∙ ap (min (d).skip) c.samples_per_channel.ensures in
+    let gone-is : c.min-dropped.result * c.channels.result ≡ gone p d =
     ap₂ (λ x y. x * y) dropped-is c.channels.ensures in
-    let gone-le : c.least-dropped.result * c.channels.result ≤ frame_samples p =
+    let gone-le : c.min-dropped.result * c.channels.result ≤ frame_samples p =
     omega (arith, gone-is, gone-fits p d) in
     omega (arith, gone-le, (frame-samples-range c.args.parameters c.requires.0).1)
 
@@ -59,11 +59,11 @@ leave_out-requires c =
     c.args.parameters in
     let d : SbcDecoder =
     c.args.self in
-    let dropped-is : c.least-dropped.result ≡ dropped p d =
-    c.least-dropped.ensures ∙ ap (min (d).skip) c.samples_per_channel.ensures in
-    let gone-is : c.least-dropped.result * c.channels.result ≡ gone p d =
+    let dropped-is : c.min-dropped.result ≡ dropped p d =
+    c.min-dropped.ensures ∙ ap (min (d).skip) c.samples_per_channel.ensures in
+    let gone-is : c.min-dropped.result * c.channels.result ≡ gone p d =
     ap₂ (λ x y. x * y) dropped-is c.channels.ensures in
-    let gone-le : c.least-dropped.result * c.channels.result ≤ frame_samples p =
+    let gone-le : c.min-dropped.result * c.channels.result ≤ frame_samples p =
     omega (arith, gone-is, gone-fits p d) in
     (omega (arith, gone-le, c.frame_samples-samples.ensures), search rules)
 
@@ -74,11 +74,11 @@ overflow_sub-result c =
     c.args.parameters in
     let d : SbcDecoder =
     c.args.self in
-    let dropped-is : c.least-dropped.result ≡ dropped p d =
-    c.least-dropped.ensures ∙ ap (min (d).skip) c.samples_per_channel.ensures in
-    let gone-is : c.least-dropped.result * c.channels.result ≡ gone p d =
+    let dropped-is : c.min-dropped.result ≡ dropped p d =
+    c.min-dropped.ensures ∙ ap (min (d).skip) c.samples_per_channel.ensures in
+    let gone-is : c.min-dropped.result * c.channels.result ≡ gone p d =
     ap₂ (λ x y. x * y) dropped-is c.channels.ensures in
-    let gone-le : c.least-dropped.result * c.channels.result ≤ frame_samples p =
+    let gone-le : c.min-dropped.result * c.channels.result ≤ frame_samples p =
     omega (arith, gone-is, gone-fits p d) in
     omega (arith, gone-le, c.frame_samples-samples.ensures)
 
@@ -100,11 +100,11 @@ returns c =
     let written_is : written ≡ samples p d f output ++ drop (frame_samples p) output =
     c.decode_frame-synthesis.ensures.output
     ∙ ap (λ h. decode_fields p h f ++ drop (frame_samples p) output) c.start_histories-histories.ensures in
-    let dropped-is : c.least-dropped.result ≡ dropped p d =
-    c.least-dropped.ensures ∙ ap (min (d).skip) c.samples_per_channel.ensures in
-    let gone-is : c.least-dropped.result * c.channels.result ≡ gone p d =
+    let dropped-is : c.min-dropped.result ≡ dropped p d =
+    c.min-dropped.ensures ∙ ap (min (d).skip) c.samples_per_channel.ensures in
+    let gone-is : c.min-dropped.result * c.channels.result ≡ gone p d =
     ap₂ (λ x y. x * y) dropped-is c.channels.ensures in
-    let keeps : c.frame_samples-samples.result - c.least-dropped.result * c.channels.result ≡ kept p d =
+    let keeps : c.frame_samples-samples.result - c.min-dropped.result * c.channels.result ≡ kept p d =
     ap₂ (λ x y. x - y) c.frame_samples-samples.ensures gone-is in
     let left : c.leave_out.new.output ≡ next_output p d f output =
     c.leave_out.ensures

@@ -63,26 +63,26 @@ pub encode_frames-requires : goal.encode_frames-requires
 encode_frames-requires c =
     let e = c.args.self in
     let h =
-    count_is e c.args.input.now c.args.output.now c.least-count.result _ _ c.frame_samples-samples.ensures c.frame_length-length.ensures
-    c.least-count.ensures in
+    count_is e c.args.input.now c.args.output.now c.min-count.result _ _ c.frame_samples-samples.ensures c.frame_length-length.ensures
+    c.min-count.ensures in
     (c.requires, reads e c.args.input.now c.args.output.now _ h, fills e c.args.input.now c.args.output.now _ h)
 
 pub overflow_mul-consumed : goal.overflow_mul-consumed
 overflow_mul-consumed c =
     let e = c.args.self in
     let h =
-    count_is e c.args.input.now c.args.output.now c.least-count.result _ _ c.frame_samples-samples.ensures c.frame_length-length.ensures
-    c.least-count.ensures in
+    count_is e c.args.input.now c.args.output.now c.min-count.result _ _ c.frame_samples-samples.ensures c.frame_length-length.ensures
+    c.min-count.ensures in
     omega
-    (arith, reads e c.args.input.now c.args.output.now _ h, ap (λ n. c.least-count.result * n) c.frame_samples-samples.ensures)
+    (arith, reads e c.args.input.now c.args.output.now _ h, ap (λ n. c.min-count.result * n) c.frame_samples-samples.ensures)
 
 pub overflow_mul-produced : goal.overflow_mul-produced
 overflow_mul-produced c =
     let e = c.args.self in
     let h =
-    count_is e c.args.input.now c.args.output.now c.least-count.result _ _ c.frame_samples-samples.ensures c.frame_length-length.ensures
-    c.least-count.ensures in
-    omega (arith, fills e c.args.input.now c.args.output.now _ h, ap (λ n. c.least-count.result * n) c.frame_length-length.ensures)
+    count_is e c.args.input.now c.args.output.now c.min-count.result _ _ c.frame_samples-samples.ensures c.frame_length-length.ensures
+    c.min-count.ensures in
+    omega (arith, fills e c.args.input.now c.args.output.now _ h, ap (λ n. c.min-count.result * n) c.frame_length-length.ensures)
 
 -- after the frames: the encoder and the output are those of the call
 pub returns : goal.returns
@@ -95,8 +95,8 @@ returns c =
     let left : List ℤ = c.encode_frames.new.left in
     let right : List ℤ = c.encode_frames.new.right in
     let filled : List ℕ = c.encode_frames.new.output in
-    let h : c.least-count.result ≡ n =
-    count_is e input output c.least-count.result _ _ c.frame_samples-samples.ensures c.frame_length-length.ensures c.least-count.ensures in
+    let h : c.min-count.result ≡ n =
+    count_is e input output c.min-count.result _ _ c.frame_samples-samples.ensures c.frame_length-length.ensures c.min-count.ensures in
     let w = c.well_formed in
     let two : length c.args.self.analysis ≡ 2 = omega arith in
     let hears : encoder_with e.parameters left right ≡ encoder_after n e input =

@@ -32,7 +32,7 @@ loop-i-preserved c =
     let x : SFits w16 (get_or c.args.ours.now c.loop-i.i (pos 0)) = search rules in
     let y : SFits w16 (get_or c.args.theirs.now c.loop-i.i (pos 0)) = search rules in
     let e = simp to_z-of_z at c.apart.ensures in
-    c.greater-top.ensures ∙ seen_next (apart_at c.args.ours.now c.args.theirs.now) c.loop-i.i _ _ c.loop-i.invariant e
+    c.max-top.ensures ∙ seen_next (apart_at c.args.ours.now c.args.theirs.now) c.loop-i.i _ _ c.loop-i.invariant e
 
 pub returns : goal.returns
 unfolding farthest
