@@ -3,40 +3,41 @@
 use Prim.Native.Nat.{ℕ}
 use mathlib.Core.Path.{◌≡◌, refl, ap}
 use mathlib.Core.List.{List}
-use native.Mathlib.Omega.{arith}
-use Rattle.bits.specs.Fields.{told_bits, told_read, told_room, told_written}
-use Rattle.bits.specs.declared.Bits.{Bits}
-use Rattle.bits.specs.declared.Bits.TheVariants.{Value, Incomplete}
+use Rattle.std.specs.Prelude.{Result, Ok, Err}
+use Rattle.bits.specs.Fields.{error_number, told, told_read, told_written}
+use Rattle.bits.specs.declared.Error.{Error}
+use Rattle.bits.specs.declared.Error.TheVariants.{Incomplete, BufferTooSmall}
 use Rattle.bits.specs.declared.Read.{Read}
-use Rattle.bits.specs.declared.Room.{Room}
-use Rattle.bits.specs.declared.Room.TheVariants.{Enough, BufferTooSmall}
-use Rattle.bits.specs.declared.Written.{Written}
 
-pub bits-determined : (a b : Bits) → told_bits a ≡ told_bits b → a ≡ b
-unfolding told_bits
-bits-determined (Value v) (Value w) h = let e : v ≡ w = cc in ap Value e
-bits-determined (Value v) Incomplete h = let z : ◌≡◌ {A = ℕ} 0 1 = cc in absurd (omega arith)
-bits-determined Incomplete (Value w) h = let z : ◌≡◌ {A = ℕ} 0 1 = cc in absurd (omega arith)
-bits-determined Incomplete Incomplete h = refl
+error-determined : (a b : Error) → error_number a ≡ error_number b → a ≡ b
+error-determined Incomplete Incomplete h = refl
+error-determined Incomplete BufferTooSmall h = cc
+error-determined BufferTooSmall Incomplete h = cc
+error-determined BufferTooSmall BufferTooSmall h = refl
 
-pub room-determined : (a b : Room) → told_room a ≡ told_room b → a ≡ b
-unfolding told_room
-room-determined Enough Enough h = refl
-room-determined Enough BufferTooSmall h = let z : ◌≡◌ {A = ℕ} 0 1 = cc in absurd (omega arith)
-room-determined BufferTooSmall Enough h = let z : ◌≡◌ {A = ℕ} 0 1 = cc in absurd (omega arith)
-room-determined BufferTooSmall BufferTooSmall h = refl
+pub told-determined : {A : Type 0} (a b : Result A Error) → told a ≡ told b → a ≡ b
+told-determined (Ok v) (Ok w) h = let e : v ≡ w = cc in ap Ok e
+told-determined (Ok v) (Err e) h = cc
+told-determined (Err e) (Ok w) h = cc
+told-determined (Err d) (Err e) h = let n : error_number d ≡ error_number e = cc in ap Err (error-determined d e n)
 
-pub read-determined : (a b : Read) → told_read a ≡ told_read b → a ≡ b
+pub read-determined : (position : ℕ) (a b : Result Read Error) → told_read position a ≡ told_read position b → a ≡ b
 unfolding told_read
-read-determined a b h =
-    let bits = bits-determined a.bits b.bits (ap (λ r. r.answer) h) in
-    let position = ap (λ r. r.position) h in
-    λ i. record { bits = bits i; position = position i }
+read-determined position (Ok r) (Ok s) h =
+    let value : r.value ≡ s.value = cc (ap (λ f. f.answer) h) in
+    let after = ap (λ f. f.position) h in
+    ap Ok (λ i. record { value = value i; position = after i })
+read-determined position (Ok r) (Err e) h = cc (ap (λ f. f.answer) h)
+read-determined position (Err e) (Ok s) h = cc (ap (λ f. f.answer) h)
+read-determined position (Err d) (Err e) h =
+    let n : error_number d ≡ error_number e = cc (ap (λ f. f.answer) h) in ap Err (error-determined d e n)
 
 -- and what a write left in the bytes
-pub written-determined : (a b : Written) (xs ys : List ℕ) → told_written a xs ≡ told_written b ys → (a ≡ b) × (xs ≡ ys)
+pub written-determined : (position : ℕ) (a b : Result ℕ Error) (xs ys : List ℕ)
+    → told_written position a xs ≡ told_written position b ys → (a ≡ b) × (xs ≡ ys)
 unfolding told_written
-written-determined a b xs ys h =
-    let room = room-determined a.room b.room (ap (λ r. r.answer) h) in
-    let position = ap (λ r. r.position) h in
-    (λ i. record { room = room i; position = position i }, ap (λ r. r.bytes) h)
+written-determined position (Ok p) (Ok q) xs ys h = (ap Ok (ap (λ w. w.position) h), ap (λ w. w.bytes) h)
+written-determined position (Ok p) (Err e) xs ys h = absurd (cc (ap (λ w. w.answer) h))
+written-determined position (Err e) (Ok q) xs ys h = absurd (cc (ap (λ w. w.answer) h))
+written-determined position (Err d) (Err e) xs ys h =
+    let n : error_number d ≡ error_number e = cc (ap (λ w. w.answer) h) in (ap Err (error-determined d e n), ap (λ w. w.bytes) h)

@@ -4,18 +4,22 @@ use Prim.Native.Nat.{ℕ, ◌+◌, ◌-◌, ◌*◌, ◌/◌, ◌%◌, ◌^◌, 
 use mathlib.Core.Path.{◌≡◌, sym, ap, ◌∙◌, subst}
 use mathlib.Core.Bool.{Bool}
 use mathlib.Core.List.{List, [], ◌∷◌, ◌++◌, append-nil}
-use native.Mathlib.Nat.{lt_of_lt_of_le}
+use native.Mathlib.Nat.{lt_of_lt_of_le, one-mul}
 use native.Mathlib.Numerals.{add-one}
 use native.Mathlib.Omega.{arith}
 use lib.ListN.{length, get_or, take, drop, length-append, length-take, length-drop}
 use lib.Seq.{length-take-le, take_at, take-suc, drop-drop, get_or-drop}
-use lib.Pow.{pow_mono}
+use lib.Pow.{pow_mono, shl_exact}
 use Rattle.laws.specs.Bits.{odd, digit, bits_of, number_of, bits_of_bytes}
 use Rattle.laws.proofs.Lists.{At}
 use Rattle.laws.proofs.Bits.{odd-digit, length-bits_of, number_lt, number-of-bits, number_append, number-part, number-take-lt}
 use Rattle.laws.proofs.Bits.{length-bits_of_bytes, bits-of-append, drop-bytes, take-bytes}
 use Rattle.bits.specs.Fields.{number_at}
 use Rattle.laws.proofs.Parts.{part-take}
+
+-- a 1 that is shifted by less than the width of 64 bits
+pub shifted-one : (n : ℕ) → n < 64 → 1 * 2 ^ n % 2 ^ 64 ≡ 2 ^ n
+shifted-one n h = shl_exact 1 n 64 (omega arith) (omega arith) ∙ one-mul (2 ^ n)
 
 -- the number of n bytes is below 256 ^ n
 pub window-lt : (bytes : List ℕ) → number_of (bits_of_bytes bytes) < 2 ^ (8 * length bytes)

@@ -1,13 +1,10 @@
 -- Bits read and written at a bit position of bytes, high bit first, 32 at a time at most. From document 01, "Bits".
-use Rattle.std.specs.Prelude.{ℕ, ◌+◌, ◌-◌, ◌*◌, ◌^◌, min, Bool, ◌&&◌, List, ◌++◌, eqb, leb, length, take, drop, if◌then◌else◌}
+use Rattle.std.specs.Prelude.{ℕ, ◌+◌, ◌-◌, ◌*◌, ◌^◌, min, Bool, ◌&&◌, List, ◌++◌, Result, Ok, Err, eqb, leb, length, take, drop, if◌then◌else◌}
 use Rattle.laws.specs.Answers.{Told, gives, refuses}
 use Rattle.laws.specs.Bits.{bits_of, number_of, bits_of_bytes, bytes_of}
-use Rattle.bits.specs.declared.Bits.{Bits}
-use Rattle.bits.specs.declared.Bits.TheVariants.{Value, Incomplete}
+use Rattle.bits.specs.declared.Error.{Error}
+use Rattle.bits.specs.declared.Error.TheVariants.{Incomplete, BufferTooSmall}
 use Rattle.bits.specs.declared.Read.{Read}
-use Rattle.bits.specs.declared.Room.{Room}
-use Rattle.bits.specs.declared.Room.TheVariants.{Enough, BufferTooSmall}
-use Rattle.bits.specs.declared.Written.{Written}
 
 -- the position behind the last bit; a position is a usize, so bits that 2 ^ 61 bytes or more have beyond those are out of reach
 unfoldable pub bit_end : List ℕ → ℕ
@@ -16,6 +13,16 @@ bit_end bytes = min (8 * length bytes) (2 ^ 64 - 1)
 -- 32 bits at most, and none past the end
 unfoldable pub inside : List ℕ → ℕ → ℕ → Bool
 inside bytes position count = leb count 32 && leb (position + count) (bit_end bytes)
+
+-- a refusal's number, as document 01 gives them
+abbrev pub error_number : Error → ℕ
+error_number Incomplete = 1
+error_number BufferTooSmall = 5
+
+-- what is told of an answer
+abbrev pub told : {A : Type 0} → Result A Error → Told A
+told (Ok a) = gives a
+told (Err e) = refuses (error_number e)
 
 -- ---- reading
 
@@ -28,12 +35,10 @@ pub record Found : Type 0 where
   pub answer : Told ℕ
   pub position : ℕ
 
-unfoldable pub told_bits : Bits → Told ℕ
-told_bits (Value v) = gives v
-told_bits Incomplete = refuses 1
-
-unfoldable pub told_read : Read → Found
-told_read r = record { answer = told_bits r.bits; position = r.position }
+-- a refusal leaves the position where it was
+unfoldable pub told_read : ℕ → Result Read Error → Found
+told_read position (Ok r) = record { answer = gives r.value; position = r.position }
+told_read position (Err e) = record { answer = refuses (error_number e); position = position }
 
 -- a read of 0 bits gives 0; one past the end gives Incomplete and moves nothing
 unfoldable pub read_at : List ℕ → ℕ → ℕ → Found
@@ -56,12 +61,10 @@ pub record Wrote : Type 0 where
   pub position : ℕ
   pub bytes : List ℕ
 
-unfoldable pub told_room : Room → Told Unit
-told_room Enough = gives tt
-told_room BufferTooSmall = refuses 5
-
-unfoldable pub told_written : Written → List ℕ → Wrote
-told_written w bytes = record { answer = told_room w.room; position = w.position; bytes = bytes }
+-- a refusal leaves the position where it was
+unfoldable pub told_written : ℕ → Result ℕ Error → List ℕ → Wrote
+told_written position (Ok after) bytes = record { answer = gives tt; position = after; bytes = bytes }
+told_written position (Err e) bytes = record { answer = refuses (error_number e); position = position; bytes = bytes }
 
 -- a write of 0 bits changes nothing; one past the end gives BufferTooSmall, moves nothing and writes nothing
 unfoldable pub write_at : List ℕ → ℕ → ℕ → ℕ → Wrote

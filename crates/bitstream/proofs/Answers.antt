@@ -1,19 +1,13 @@
 -- What is told of an answer, with the reader or the writer after the call, determines both: a contract on what is told fixes what is
 -- returned.
 -- Assumes nothing.
-use Prim.Native.Nat.{ℕ}
 use mathlib.Core.Path.{◌≡◌, ap}
+use Rattle.std.specs.Prelude.{Result}
 use Rattle.laws.specs.Answers.{Told}
-use Rattle.bits.specs.Fields.{told_bits, told_room}
-use Rattle.bits.specs.declared.Bits.{Bits}
-use Rattle.bits.specs.declared.Room.{Room}
-use Rattle.bits.proofs.Answers.{bits-determined, room-determined}
-use Rattle.bitstream.specs.declared.reader.BitReader.{BitReader}
-use Rattle.bitstream.specs.declared.writer.BitWriter.{BitWriter}
+use Rattle.bits.specs.Fields.{told}
+use Rattle.bits.specs.declared.Error.{Error}
+use Rattle.bits.proofs.Answers.{told-determined}
 
-pub reader-determined : (a b : Bits) (r s : BitReader) → ◌≡◌ {A = Told ℕ × BitReader} (told_bits a, r) (told_bits b, s) → (a ≡ b) × (r ≡ s)
-reader-determined a b r s h = (bits-determined a b (ap (λ p. p.0) h), ap (λ p. p.1) h)
-
-pub writer-determined : (a b : Room) (w x : BitWriter)
-    → ◌≡◌ {A = Told Unit × BitWriter} (told_room a, w) (told_room b, x) → (a ≡ b) × (w ≡ x)
-writer-determined a b w x h = (room-determined a b (ap (λ p. p.0) h), ap (λ p. p.1) h)
+-- what is told beside any state, a reader or a writer
+pub both-determined : {A S : Type 0} (a b : Result A Error) (r s : S) → ◌≡◌ {A = Told A × S} (told a, r) (told b, s) → (a ≡ b) × (r ≡ s)
+both-determined a b r s h = (told-determined a b (ap (λ p. p.0) h), ap (λ p. p.1) h)

@@ -1,7 +1,6 @@
 // The figures of document 01, on the compiled code. A set of parameters shows as rate, mode, allocation, blocks, subbands and bitpool; a
 // refusal as its number. A function with many calls is proved slowly, so each group has its own.
 use crate::show::{byte, end_line, holds, number, refusal, text};
-use bits::{Bits, Room};
 use sbc_allocation::allocate;
 use sbc_modes::{SbcAllocation, SbcChannelMode};
 use sbc_parameters::{Parsed, SbcParameters, Validated};
@@ -60,13 +59,17 @@ fn checksum(rt: &impl Print, label: &str, value: u8) -> io::Result<()> {
 // `count` bits of A5 C3 0F F0 5A from bit `position` on, and the position after them.
 fn read(rt: &impl Print, label: &str, position: usize, count: u32) -> io::Result<()> {
     text(rt, label)?;
-    let found = bits::read_at(&[0xA5, 0xC3, 0x0F, 0xF0, 0x5A], position, count);
-    let bits = found.bits;
-    match bits {
-        Bits::Value(value) => number(rt, value as u64)?,
-        Bits::Incomplete => text(rt, " Incomplete")?,
-    }
-    number(rt, found.position as u64)?;
+    let after = match bits::read_at(&[0xA5, 0xC3, 0x0F, 0xF0, 0x5A], position, count) {
+        Ok(read) => {
+            number(rt, u64::from(read.value))?;
+            read.position
+        }
+        Err(error) => {
+            print!(rt; " {error:?}")?;
+            position
+        }
+    };
+    number(rt, after as u64)?;
     end_line(rt)
 }
 
@@ -74,13 +77,17 @@ fn read(rt: &impl Print, label: &str, position: usize, count: u32) -> io::Result
 fn write(rt: &impl Print, label: &str, position: usize, value: u32, count: u32) -> io::Result<()> {
     text(rt, label)?;
     let mut bytes = [0xFFu8; 3];
-    let written = bits::write_at(&mut bytes, position, value, count);
-    let room = written.room;
-    match room {
-        Room::Enough => text(rt, " written")?,
-        Room::BufferTooSmall => text(rt, " BufferTooSmall")?,
-    }
-    number(rt, written.position as u64)?;
+    let after = match bits::write_at(&mut bytes, position, value, count) {
+        Ok(end) => {
+            text(rt, " written")?;
+            end
+        }
+        Err(error) => {
+            print!(rt; " {error:?}")?;
+            position
+        }
+    };
+    number(rt, after as u64)?;
     byte(rt, bytes[0])?;
     byte(rt, bytes[1])?;
     byte(rt, bytes[2])?;

@@ -14,7 +14,7 @@ pub loop-left-preserved : goal.loop-left-preserved
 loop-left-preserved c =
     let l = c.loop-left in
     let a = c.args in
-    let n : ℕ = c.least-n.result in
+    let n : ℕ = c.min-n.result in
     let x : ℕ = c.with_bits.result in
     let step : overwritten (set l.bytes (l.at / 8) x) (l.at + n) a.value (l.left - n)
     ≡ overwritten l.bytes l.at a.value l.left =
