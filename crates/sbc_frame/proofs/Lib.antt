@@ -11,3 +11,4 @@ pub mod Blocks
 pub mod Columns
 pub mod Flagged
 pub mod Rows
+pub mod Made

@@ -48,7 +48,7 @@ pub loop-subband-preserved : goal.loop-subband-preserved
 loop-subband-preserved c =
     let a = c.args in
     let l = c.loop-subband in
-    pass a.blocks l.subband a.flags.now a.samples.now a.joined.now l.samples _ c.requires.1 (omega arith) l.invariant
+    pass a.blocks l.subband a.flags.now a.samples.now a.joined.now l.samples _ c.requires (omega arith) l.invariant
     (grind (arith, common_steps)) (grind (arith, common_steps))
 
 pub returns : goal.returns

@@ -11,7 +11,7 @@ use Rattle.sbc_join.proofs.pick_subband.Goals as goal
 pub loop-block-init : goal.loop-block-init
 loop-block-init c =
     let f = λ (b : ℕ). sample_in c.args.joined.now b c.args.subband in
-    (omega arith, none-replaced c.args.subband f c.args.samples.now c.requires.0)
+    (omega arith, none-replaced c.args.subband f c.args.samples.now c.told-samples)
 
 pub loop-block-preserved : goal.loop-block-preserved
 loop-block-preserved c = (
