@@ -7,27 +7,14 @@ ghost use Rattle.sbc_frame.specs.Arrays.{sample_in};
 ghost use Rattle.sbc_factors.specs.Factors.{maxima_in, factors_in};
 
 use sbc_quantizer::scale_factor;
-
-// The absolute value.
-fn magnitude(x: i32) -> u32
-    ensures { result ≡ nat_abs x }
-{
-    if x < 0 {
-        return (0 - (x as i64)) as u32;
-    }
-    x as u32
-}
+use std::array;
 
 // The greatest absolute values of the subbands, with those of one block more.
 fn raise(top: &[u32; 8], samples: &[i32; 128], block: usize) -> [u32; 8]
     requires { block < 16 }
     ensures { result ≡ build 8 (λ s. max (get_or top.now s 0) (nat_abs (sample_in samples.now block s))) }
 {
-    let mut higher = [0u32; 8];
-    for s in 0..8 {
-        higher[s] = top[s].max(magnitude(samples[8 * block + s]));
-    }
-    higher
+    array::from_fn(move |s| top[s].max(samples[8 * block + s].unsigned_abs()))
 }
 
 // The greatest absolute value of each subband.
@@ -48,9 +35,5 @@ pub fn factors_of(samples: &[i32; 128], blocks: usize) -> [u8; 8]
     ensures { result ≡ factors_in blocks samples.now }
 {
     let top = maxima(samples, blocks);
-    let mut factors = [0u8; 8];
-    for s in 0..8 {
-        factors[s] = scale_factor(top[s]);
-    }
-    factors
+    array::from_fn(|s| scale_factor(top[s]))
 }
