@@ -48,15 +48,13 @@ pub pick_samples-requires : goal.pick_samples-requires
 pick_samples-requires c =
     let few : c.args.parameters.blocks ≤ 16 =
     (ranges _ c.requires.0).blocks-high in
-    let after-factors = c in
-    let s = after-factors in (s.requires.1, few)
+    few
 
 pub pick_samples-requires-2 : goal.pick_samples-requires-2
 pick_samples-requires-2 c =
     let few : c.args.parameters.blocks ≤ 16 =
     (ranges _ c.requires.0).blocks-high in
-    let after-factors = c in
-    let s = after-factors in (s.requires.2, few)
+    few
 
 pub returns : goal.returns
 returns c =
