@@ -28,10 +28,10 @@ same_bit crc bit h = go (leb 128 crc) (eqb (bit % 2) 1) refl refl
     go false false p q = rw (p, q) (sym (eq-eqb (crc / 128) (bit % 2) (omega (arith, leb-false 128 crc p, eqb-false (bit % 2) 1 q))))
 
 -- a step with the test that the code makes
-pub step-test : (crc bit : ℕ) → crc < 256
+pub step_test : (crc bit : ℕ) → crc < 256
     → crc_step crc (odd bit) ≡ (if eqb (crc / 128) (bit % 2) then crc % 128 * 2 else bit_xor 0x1D (crc % 128 * 2))
 unfolding crc_step
-step-test crc bit h = ap (λ t. if t then crc % 128 * 2 else bit_xor 0x1D (crc % 128 * 2)) (same_bit crc bit h)
+step_test crc bit h = ap (λ t. if t then crc % 128 * 2 else bit_xor 0x1D (crc % 128 * 2)) (same_bit crc bit h)
 
 -- ---- lists of bits
 -- one list behind another

