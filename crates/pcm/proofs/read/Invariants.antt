@@ -1,9 +1,9 @@
--- `pcm::read` meets its contract. The loop's invariant: as many samples as before, and the first i are read.
+-- `pcm::read` meets its contract. The loop's invariant: the first i samples are read.
 -- Assumes nothing.
-use Prim.Native.Nat.{ℕ, ◌+◌, ◌-◌, ◌*◌, ◌≤◌}
+use Prim.Native.Nat.{ℕ, ◌+◌, ◌*◌}
 use mathlib.Core.Path.{◌≡◌}
 use mathlib.Core.List.{List}
-use lib.ListN.{length, get_or, take}
+use lib.ListN.{get_or, take}
 use lib.IntN.{ℤ}
 use Rattle.laws.specs.Lists.{build}
 use Rattle.pcm.specs.Samples.{sample_of}
@@ -14,9 +14,4 @@ abbrev pub sample_at : List ℕ → ℕ → ℤ
 sample_at bytes i = sample_of (get_or bytes (2 * i) 0) (get_or bytes (2 * i + 1) 0)
 
 abbrev pub invariant-loop-i : goal.invariant-loop-i
-invariant-loop-i l =
-    (l.i ≤ length l.initial.samples) × (length l.samples ≡ length l.initial.samples)
-    × (take l.i l.samples ≡ build l.i (sample_at l.bytes))
-
-abbrev pub decreases-loop-i : goal.decreases-loop-i
-decreases-loop-i l = length l.initial.samples - l.i
+invariant-loop-i l = take l.i l.samples ≡ build l.i (sample_at l.bytes)

@@ -1,6 +1,6 @@
--- `pcm::write` meets its contract. The loop's invariant: as many bytes as before, and those of the first i samples are written.
+-- `pcm::write` meets its contract. The loop's invariant: the bytes of the first i samples are written.
 -- Assumes nothing.
-use Prim.Native.Nat.{ℕ, suc, ◌+◌, ◌*◌, ◌/◌, ◌%◌, ◌<◌}
+use Prim.Native.Nat.{ℕ, suc, ◌+◌, ◌*◌, ◌<◌}
 use mathlib.Core.Path.{◌≡◌, refl, sym, ap, ap₂, ◌∙◌}
 use mathlib.Core.List.{List, [], ◌∷◌, ◌++◌, append_assoc}
 use native.Mathlib.Numerals.{add-one}
@@ -8,12 +8,9 @@ use native.Mathlib.Omega.{arith}
 use lib.ListN.{length, get_or, take, set, length-set}
 use lib.Seq.{take_all, take-suc-set}
 use lib.IntN.{ℤ, pos}
-use mir.Syntax.{w16}
-use mir.Val.{to_z, of_z}
-use mir.Facts.{to_z-of_z}
 use borrow.Author.Rules.{rules}
 use Rattle.laws.specs.Lists.{collect}
-use Rattle.pcm.specs.Samples.{unsigned_of, low_byte, high_byte}
+use Rattle.pcm.proofs.Bytes.{written-sample}
 use Rattle.pcm.proofs.write.Invariants.{bytes_at}
 use Rattle.pcm.proofs.write.Goals as goal
 
@@ -36,29 +33,17 @@ written_next f xs i a b h e q =
     ∙ ap₂ (λ (l m : List ℕ). l ++ m) e q
     ∙ ap (λ (n : ℕ). collect n f) (sym (add-one i))
 
--- the bytes of a sample, from its two's complement
-two_bytes : (z : ℤ) (n a b : ℕ) → n ≡ unsigned_of z → a ≡ n % 256 → b ≡ n / 256 % 256 → (a ∷ b ∷ []) ≡ (low_byte z ∷ high_byte z ∷ [])
-unfolding low_byte high_byte
-two_bytes z n a b e p q =
-    ap₂ (λ (l h : ℕ). l ∷ h ∷ []) (p ∙ ap (λ (m : ℕ). m % 256) e) (q ∙ ap (λ (m : ℕ). m / 256 % 256) e)
-
 pub loop-i-init : goal.loop-i-init
-loop-i-init c = (omega arith, refl, none_written _ c.args.bytes.now)
+loop-i-init c = none_written _ c.args.bytes.now
 
 pub loop-i-preserved : goal.loop-i-preserved
 loop-i-preserved c =
     let l = c.loop-i in
     let z : ℤ = get_or c.args.samples.now l.i (pos 0) in
-    let back : to_z w16 (of_z w16 z) ≡ z = to_z-of_z {w = w16} (record { sfits = search rules }) in
-    let value : c.unsigned-n.result ≡ unsigned_of z = c.unsigned-n.ensures ∙ ap unsigned_of back in (
-      omega arith,
-      length-set (set l.bytes (2 * l.i) _) (2 * l.i + 1) _ ∙ length-set l.bytes (2 * l.i) _ ∙ l.invariant.1,
-      written_next _ l.bytes l.i _ _ (omega arith) l.invariant.2
-          (two_bytes z _ _ _ value c.low_byte.ensures c.high_byte.ensures),
-    )
+    written_next _ l.bytes l.i _ _ (omega arith) l.invariant (written-sample z _ (record { sfits = search rules }) c.to_le_bytes.ensures)
 
 pub returns : goal.returns
 returns c =
     let l = c.loop-i in
     let e : l.i ≡ length c.args.samples.now = omega arith in
-    sym (take_all (2 * l.i) l.bytes (omega arith)) ∙ l.invariant.2 ∙ ap (λ (n : ℕ). collect n (bytes_at c.args.samples.now)) e
+    sym (take_all (2 * l.i) l.bytes (omega arith)) ∙ l.invariant ∙ ap (λ (n : ℕ). collect n (bytes_at c.args.samples.now)) e

@@ -1,0 +1,2 @@
+-- Samples and their bytes in the library's words.
+pub mod Bytes
