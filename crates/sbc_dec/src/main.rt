@@ -4,156 +4,63 @@
 // is number 1. A write that fails ends it with that error, and a read that fails counts as the end of the input.
 #![tactic(auto)]
 
-ghost use Rattle.std.specs.Prelude.{◌≡◌, ◌*◌, length};
+ghost use Rattle.std.specs.Prelude.{◌*◌, ◌≤◌, length};
 
-use codec::{Coded, Error, Progress};
+use codec::Coded;
 use sbc_decoder::SbcDecoder;
 use std::io;
-use std::io::Read;
+use stream::{Coder, Stop};
 
-// The decoder, the bytes at the front of the buffer that it has not taken yet, and how far the program is.
-#[derive(Clone, Copy)]
-struct Stream {
+// The decoder, and the buffers that its samples pass through: as they are decoded, and as the bytes that are written.
+#[derive(Drop)]
+struct Decoding {
     decoder: SbcDecoder,
-    held: usize,
-    ended: bool,
-    going: bool,
+    samples: [i16; 65536],
+    raw: [u8; 131072],
 }
 
-// Writes the samples, by way of the raw buffer.
-fn write_samples(rt: &impl Print, samples: &[i16], raw: &mut [u8]) -> io::Result<()>
-    requires { length raw.old ≡ 2 * length samples.now }
-{
-    pcm::write(samples, raw);
-    rt.write_all(raw)
-}
+impl Coder for Decoding {
+    ghost use Rattle.std.specs.Prelude.{◌≡◌, ℕ};
+    ghost use Rattle.laws.specs.Answers.{gives};
+    ghost use Rattle.codec.specs.Answers.{progress_of};
+    ghost use Rattle.sbc_decoder.specs.Decode.{decode};
 
-// Writes the first samples, and answers whether the buffers hold so many.
-fn write_first(rt: &impl Print, samples: &[i16], raw: &mut [u8], count: usize) -> io::Result<bool> {
-    if count > samples.len() {
-        return Ok(false);
-    }
-    if count > raw.len() / 2 {
-        return Ok(false);
-    }
-    write_samples(rt, &samples[..count], &mut raw[..2 * count])?;
-    Ok(true)
-}
+    // What a decode call says.
+    ghost codes = { λ old bytes used new. (produced : ℕ) × (decode old.decoder bytes old.samples
+        ≡ record { answer = gives (progress_of used produced); decoder = new.decoder; output = new.samples }) };
 
-impl Stream {
-    fn new() -> Stream {
-        Stream {
-            decoder: SbcDecoder::new(),
-            held: 0,
-            ended: false,
-            going: true,
-        }
-    }
-
-    fn stopped(mut self) -> Stream {
-        self.going = false;
-        self
-    }
-
-    fn refused(self, rt: &impl Eprint, error: Error) -> io::Result<Stream> {
-        stream::report(rt, error.number())?;
-        Ok(self.stopped())
-    }
-
-    // At the end of the input, what is held may still be a cut frame, which the decoder is asked once more.
-    fn finished(mut self) -> Stream {
-        let decoder = self.decoder;
-        let finishing = decoder.finished();
-        self.decoder = finishing;
-        self.ended = true;
-        self
-    }
-
-    // Reads on, since no whole frame is held.
-    fn read_on<R: Read>(mut self, input: &mut R, bytes: &mut [u8]) -> Stream {
-        let held = self.held;
-        if self.ended {
-            return self.stopped();
-        }
-        if held > bytes.len() {
-            return self.stopped();
-        }
-        let got = stream::read_on(input, bytes, held);
-        if got == 0 {
-            return self.finished();
-        }
-        self.held = held + got;
-        self
-    }
-
-    // Some frames were decoded.
-    fn advanced(
-        mut self,
-        rt: &impl Print,
-        progress: Progress,
-        bytes: &mut [u8],
-        samples: &[i16],
-        raw: &mut [u8],
-    ) -> io::Result<Stream> {
-        if !write_first(rt, samples, raw, progress.produced)? {
-            return Ok(self.stopped());
-        }
-        let held = stream::keep(bytes, progress.consumed, self.held);
-        self.held = held;
-        Ok(self)
-    }
-
-    // The next frames, or more of the input.
-    fn next<R: Read>(
-        mut self,
-        rt: &(impl Print + Eprint),
-        input: &mut R,
-        bytes: &mut [u8],
-        samples: &mut [i16],
-        raw: &mut [u8],
-    ) -> io::Result<Stream> {
-        let held = self.held;
-        if held > bytes.len() {
-            return Ok(self.stopped());
-        }
-        let decoder = self.decoder;
-        let result = decoder.decoded(&bytes[..held], samples);
-        let after = result.decoder;
-        self.decoder = after;
-        let answer = result.answer;
-        match answer {
+    fn code(&mut self, rt: &impl Print, bytes: &[u8]) -> Result<usize, Stop> {
+        match self.decoder.decode(bytes, &mut self.samples) {
             Coded::Done(progress) => {
-                if progress.consumed == 0 {
-                    return Ok(self.read_on(input, bytes));
-                }
-                self.advanced(rt, progress, bytes, samples, raw)
+                write_samples(rt, &self.samples[..progress.produced], &mut self.raw)?;
+                Ok(progress.consumed)
             }
-            Coded::Refused(error) => self.refused(rt, error),
+            Coded::Refused(error) => Err(Stop::Refused(error)),
         }
+    }
+
+    // What is held may still be a cut frame, which the decoder then refuses.
+    fn finish(&mut self) {
+        self.decoder.finish();
     }
 }
 
-// A proved loop has to end, and nothing says that the input does. So the loop counts its turns, up to a number that no run uses up.
-fn run(
-    rt: &(impl Input + Print + Eprint),
-    bytes: &mut [u8],
-    samples: &mut [i16],
-    raw: &mut [u8],
-) -> io::Result<()> {
-    let mut input = rt.reader();
-    let mut stream = Stream::new();
-    for _ in 0..u64::MAX {
-        if !stream.going {
-            break;
-        }
-        stream = stream.next(rt, &mut input, bytes, samples, raw)?;
-    }
-    Ok(())
+// Writes the samples, by way of the front of the raw buffer.
+fn write_samples(rt: &impl Print, samples: &[i16], raw: &mut [u8]) -> io::Result<()>
+    requires { 2 * length samples.now ≤ length raw.old }
+{
+    let bytes = &mut raw[..2 * samples.len()];
+    pcm::write(samples, bytes);
+    rt.write_all(bytes)
 }
 
 fn main(rt: HostRuntime) -> io::Result<()> {
     let mut bytes = [0u8; 16384];
-    let mut samples = [0i16; 65536];
-    let mut raw = [0u8; 131072];
-    run(&rt, &mut bytes, &mut samples, &mut raw)
+    let mut decoding = Decoding {
+        decoder: SbcDecoder::new(),
+        samples: [0; 65536],
+        raw: [0; 131072],
+    };
+    let done = stream::run(&mut decoding, &rt, &mut rt.reader(), &mut bytes);
+    stream::told(&rt, done)
 }

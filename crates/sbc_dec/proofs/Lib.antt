@@ -1,0 +1,2 @@
+-- What the program rests on of a decode call.
+pub mod Fitting
