@@ -4,5 +4,5 @@
 pub mod analysis;
 mod matrices;
 
-pub use analysis::{analyze, analyze4, analyze8};
-pub use matrices::{columns_of_4, columns_of_8};
+pub use analysis::{analyze, analyze_by};
+pub use matrices::AnalysisBank;

@@ -6,13 +6,15 @@ use mathlib.Core.Path.{◌≡◌, refl, sym, ap, ◌∙◌, subst}
 use mathlib.Core.Logic.{◌⊎◌, inl, inr}
 use mathlib.Core.Bool.{Bool, true, false}
 use mathlib.Core.List.{List, [], ◌∷◌, ◌++◌}
-use native.Mathlib.Nat.{eq-or-lt_of_le, suc-mul, mul_comm, mul-le-mul_right}
+use native.Mathlib.Nat.{eq-or-lt_of_le, suc-mul, mul-le-mul_right}
 use native.Mathlib.Omega.{arith}
 use lib.Dec.{ltb}
 use lib.ListN.{length, get_or, take, drop, replicate, get_or-append}
 use lib.Seq.{get_or-take, get_or-drop, get_or_at}
 use lib.IntN.{ℤ, pos}
-use borrow.Author.Tests.{ltb-true}
+use borrow.Author.Tests.{ltb-true, ltb-false}
+use borrow.Rule.Slice.PartMut.{put_mid}
+use Rattle.std.proofs.lemmas.List.{ext_get_or, places}
 use Rattle.laws.specs.Lists.{build}
 use Rattle.laws.specs.Sums.{up_to, overwrite}
 use Rattle.laws.proofs.Lists.{get_or-build, build-ext}
@@ -36,23 +38,49 @@ shifted-first S X xs ys h = build-ext (length X) (shifted_at S X xs) (shifted_at
     go k true e = rw e (h (S - 1 - k) (omega (arith, ltb-true k S e)))
     go k false e = rw e
 
--- the history after a block, and the outputs, from what the code's steps give
-module _ {S : ℕ} (C c b : ℕ) (X input pcm after outputs : List ℤ) (bands : Bands S)
-    (i : pcm ≡ build 8 (up_to S (λ j. get_or input ((S * b + j) * C + c) (pos 0)))) (h : after ≡ shifted S X pcm)
-    (o : outputs ≡ padded (analysis_outputs S (shifted S X pcm))) where
-  entered : after ≡ shifted S X (build S (λ j. get_or input ((b * S + j) * C + c) (pos 0)))
-  entered =
-      h
-      ∙ shifted-first S X _ _
-      (λ j lt. get_or-filled 8 S (λ k. get_or input ((S * b + k) * C + c) (pos 0)) pcm j i lt (bands-le bands)
-      ∙ ap (λ (n : ℕ). get_or input ((n + j) * C + c) (pos 0)) (mul_comm S b) ∙ sym (get_or-build S _ j (pos 0) lt))
+-- the history after a block
+pub entered : {S : ℕ} (C c b : ℕ) (X input pcm after : List ℤ) → Bands S
+    → pcm ≡ build 8 (up_to S (λ j. get_or input ((b * S + j) * C + c) (pos 0))) → after ≡ shifted S X pcm
+    → after ≡ shifted S X (build S (λ j. get_or input ((b * S + j) * C + c) (pos 0)))
+entered {S} C c b X input pcm after bands i h =
+    h
+    ∙ shifted-first S X _ _
+    (λ j lt. get_or-filled 8 S (λ k. get_or input ((b * S + k) * C + c) (pos 0)) pcm j i lt (bands-le bands)
+    ∙ sym (get_or-build S _ j (pos 0) lt))
 
-  pub block-analyzed : (T : ℕ) → T ≡ S
-      → (after ≡ shifted T X (build T (λ j. get_or input ((b * T + j) * C + c) (pos 0)))) × (outputs ≡ padded (analysis_outputs T after))
-  block-analyzed T e =
-      subst (λ (t : ℕ).
-      (after ≡ shifted t X (build t (λ j. get_or input ((b * t + j) * C + c) (pos 0)))) × (outputs ≡ padded (analysis_outputs t after)))
-      (sym e) (entered, o ∙ ap (λ (l : List ℤ). padded (analysis_outputs S l)) (sym h))
+-- ---- a block's samples copied into their places
+put-is : (at n : ℕ) (xs ys : List ℤ) → length ys ≡ n → at + n ≤ length xs
+    → put_mid at (at + n - at) xs ys ≡ overwrite at n (λ s. get_or ys s (pos 0)) xs
+put-is at n xs ys l room = ext_get_or (pos 0) _ _ same-length (λ p h. each p (ltb p at) refl (ltb p (at + n)) refl)
+  where
+    f : ℕ → ℤ
+    f s = get_or ys s (pos 0)
+
+    same-length : length (put_mid at (at + n - at) xs ys) ≡ length (overwrite at n f xs)
+    same-length = let e = length-overwrite at f xs n in grind (arith, places, e)
+
+    each : (p : ℕ) (t : Bool) → ltb p at ≡ t → (u : Bool) → ltb p (at + n) ≡ u
+        → get_or (put_mid at (at + n - at) xs ys) p (pos 0) ≡ get_or (overwrite at n f xs) p (pos 0)
+    each p true e u q =
+        let h = ltb-true p at e in
+        let here : get_or (put_mid at (at + n - at) xs ys) p (pos 0) ≡ get_or xs p (pos 0) = grind (arith, places) in
+        here ∙ sym (overwrite-below at f xs n p (pos 0) h)
+    each p false e true q =
+        let h = ltb-false p at e in
+        let m = ltb-true p (at + n) q in
+        let here : get_or (put_mid at (at + n - at) xs ys) p (pos 0) ≡ get_or ys (p - at) (pos 0) = grind (arith, places) in
+        let place : at + (p - at) ≡ p = omega arith in
+        here
+        ∙ sym (ap (λ (k : ℕ). get_or (overwrite at n f xs) k (pos 0)) (sym place)
+        ∙ overwrite-at at f xs n (p - at) (pos 0) (omega arith) room)
+    each p false e false q =
+        let m = ltb-false p (at + n) q in
+        let here : get_or (put_mid at (at + n - at) xs ys) p (pos 0) ≡ get_or xs p (pos 0) = grind (arith, places) in
+        here ∙ sym (overwrite-above at f xs n p (pos 0) m)
+
+pub copied : (at n : ℕ) (xs ys zs : List ℤ) → ys ≡ zs → length zs ≡ n → at + n ≤ length xs
+    → put_mid at (at + n - at) xs ys ≡ overwrite at n (λ s. get_or zs s (pos 0)) xs
+copied at n xs ys zs same l room = ap (put_mid at (at + n - at) xs) same ∙ put-is at n xs zs l room
 
 -- ---- the blocks of a channel
 -- no block yet

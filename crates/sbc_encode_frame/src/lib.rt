@@ -9,6 +9,7 @@ ghost use Rattle.sbc_frame.specs.Encoding.{encode_fields, analysis_histories};
 
 use sbc_analyze_frame::{analyze_channel, analyze_second};
 use sbc_code::code;
+use sbc_filterbank::PcmChannel;
 use sbc_parameters::SbcParameters;
 use sbc_write_frame::write_frame;
 
@@ -27,7 +28,11 @@ pub fn encode_frame(
     let blocks = parameters.blocks as usize;
     let subbands = parameters.subbands as usize;
     let channels = parameters.channels() as usize;
-    let left = analyze_channel(left_history, input, blocks, subbands, 0, channels);
+    let first = PcmChannel {
+        index: 0,
+        count: channels,
+    };
+    let left = analyze_channel(left_history, input, blocks, subbands, first);
     let right = analyze_second(right_history, input, blocks, subbands, channels);
     let coding = code(parameters, &left, &right);
     let flags = coding.flags;

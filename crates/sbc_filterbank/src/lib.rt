@@ -1,8 +1,10 @@
-// The analysis and synthesis filterbanks of SBC. Their definitions stand in specs/, and the laws of these in proofs/; here is the ring that
-// the synthesis filterbank remembers from block to block. The code that analyzes and synthesizes a block is in the crates sbc_analyze,
+// The analysis and synthesis filterbanks of SBC. Their definitions stand in specs/, and the laws of these in proofs/; here are the ring that
+// the synthesis filterbank remembers from block to block, and the channel of PCM that either filterbank reads or writes. The code that analyzes and synthesizes a block is in the crates sbc_analyze,
 // sbc_modulate and sbc_synthesize.
 #![tactic(auto)]
 
+pub mod channel;
 pub mod synthesis;
 
+pub use channel::PcmChannel;
 pub use synthesis::{Synthesis, advance};

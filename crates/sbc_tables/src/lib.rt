@@ -1,40 +1,87 @@
 // The constant tables of the codec, side by side, as the Rust has them: loudness offsets, prototypes of the filterbanks, cosines.
 //
-// A constant has no contract of its own: beside each stands a function that gives it back, whose contract says which definition it is.
+// A constant has no contract of its own: beside the cosines stands a function that gives them back, whose contract says which definition
+// they are, and the tables that depend on the number of subbands are what a `Bank` gives.
 #![tactic(auto)]
 
-ghost use Rattle.std.specs.Prelude.{◌≡◌};
+ghost use Rattle.std.specs.Prelude.{ℕ, ◌≡◌, ◌⊎◌, ◌<◌, [], get_or, refl};
+ghost use Rattle.std.proofs.Common.{inl, inr};
 ghost use Rattle.sbc_tables.specs.Tables.{loudness_offsets, prototype, cosines};
 
+// A filterbank, by its number of subbands, S. Code that is generic over it is compiled for each S apart, into loops of known length.
+pub trait Bank {
+    ghost SUBBANDS: { ℕ };
+
+    const SUBBANDS: usize;
+
+    // The prototype filter.
+    fn prototype() -> &'static [i32]
+        ensures { result.now ≡ prototype SUBBANDS };
+
+    // The loudness offsets of a rate, by its index: one for each subband.
+    fn loudness_offsets(frequency: usize) -> &'static [i32]
+        requires { frequency < 4 }
+        ensures { result.now ≡ get_or (loudness_offsets SUBBANDS) frequency [] };
+
+    // S is 4 or 8.
+    ghost bands: { (SUBBANDS ≡ 4) ⊎ (SUBBANDS ≡ 8) };
+}
+
+// The filterbank of 4 subbands.
+pub struct Four;
+
+// The filterbank of 8 subbands.
+pub struct Eight;
+
+impl Bank for Four {
+    ghost SUBBANDS = { 4 };
+
+    const SUBBANDS: usize = 4;
+
+    ghost bands = { inl refl };
+
+    fn prototype() -> &'static [i32] {
+        &PROTOTYPE_4
+    }
+
+    fn loudness_offsets(frequency: usize) -> &'static [i32] {
+        &LOUDNESS_OFFSETS_4[frequency]
+    }
+}
+
+impl Bank for Eight {
+    ghost SUBBANDS = { 8 };
+
+    const SUBBANDS: usize = 8;
+
+    ghost bands = { inr refl };
+
+    fn prototype() -> &'static [i32] {
+        &PROTOTYPE_8
+    }
+
+    fn loudness_offsets(frequency: usize) -> &'static [i32] {
+        &LOUDNESS_OFFSETS_8[frequency]
+    }
+}
+
 // The loudness offsets by rate and subband.
-pub const LOUDNESS_OFFSETS_4: [[i32; 4]; 4] = [
+pub static LOUDNESS_OFFSETS_4: [[i32; 4]; 4] = [
     [-1, 0, 0, 0],
     [-2, 0, 0, 1],
     [-2, 0, 0, 1],
     [-2, 0, 0, 1],
 ];
 
-pub fn loudness_offsets_of_4() -> [[i32; 4]; 4]
-    ensures { result ≡ loudness_offsets 4 }
-{
-    LOUDNESS_OFFSETS_4
-}
-
-pub const LOUDNESS_OFFSETS_8: [[i32; 8]; 4] = [
+pub static LOUDNESS_OFFSETS_8: [[i32; 8]; 4] = [
     [-2, 0, 0, 0, 0, 0, 0, 1],
     [-3, 0, 0, 0, 0, 0, 1, 2],
     [-4, 0, 0, 0, 0, 0, 1, 2],
     [-4, 0, 0, 0, 0, 0, 1, 2],
 ];
 
-pub fn loudness_offsets_of_8() -> [[i32; 8]; 4]
-    ensures { result ≡ loudness_offsets 8 }
-{
-    LOUDNESS_OFFSETS_8
-}
-
 // The prototype filters, with 30 bits behind the point.
-pub const PROTOTYPE_4: [i32; 40] = [
+pub static PROTOTYPE_4: [i32; 40] = [
     0, 576115, 1601898, 2935298, 4120164, 4179058, 2003406, -3285782, 11718563, 21945682, 31005089,
     34567968, 27784982, 6584670, -30947094, -83372133, 145592169, 209366600, 264824099, 302610729,
     316018681, 302610729, 264824099, 209366600, -145592169, -83372133, -30947094, 6584670,
@@ -42,13 +89,7 @@ pub const PROTOTYPE_4: [i32; 40] = [
     2935298, 1601898, 576115,
 ];
 
-pub fn prototype_of_4() -> [i32; 40]
-    ensures { result ≡ prototype 4 }
-{
-    PROTOTYPE_4
-}
-
-pub const PROTOTYPE_8: [i32; 80] = [
+pub static PROTOTYPE_8: [i32; 80] = [
     0, 168122, 368569, 595519, 884677, 1223985, 1585274, 1915252, 2160181, 2258852, 2141627,
     1735771, 968681, -191991, -1771385, -3755063, 6076836, 8621515, 11229669, 13687238, 15733030,
     17077392, 17417002, 16448018, 13891192, 9510749, 3139712, -5278279, -15720018, -28035265,
@@ -59,12 +100,6 @@ pub const PROTOTYPE_8: [i32; 80] = [
     -6076836, -3755063, -1771385, -191991, 968681, 1735771, 2141627, 2258852, 2160181, 1915252,
     1585274, 1223985, 884677, 595519, 368569, 168122,
 ];
-
-pub fn prototype_of_8() -> [i32; 80]
-    ensures { result ≡ prototype 8 }
-{
-    PROTOTYPE_8
-}
 
 // cos(n pi / 16), with 30 bits behind the point.
 pub const COSINE: [i32; 32] = [

@@ -10,8 +10,9 @@ use Rattle.laws.specs.Sums.{up_to}
 use Rattle.sbc_analyze_frame.proofs.pcm_block.Given as goal
 
 abbrev pub invariant-loop-j : goal.invariant-loop-j
-invariant-loop-j l =
-    (l.j ≤ l.count) × (l.pcm ≡ build 8 (up_to l.j (λ k. get_or l.input ((l.from + k) * l.channels + l.channel) (pos 0))))
+invariant-loop-j g l =
+    (l.j ≤ g.B.Bank.SUBBANDS)
+    × (l.pcm ≡ build 8 (up_to l.j (λ k. get_or l.input ((l.block * g.B.Bank.SUBBANDS + k) * l.channel.count + l.channel.index) (pos 0))))
 
 abbrev pub decreases-loop-j : goal.decreases-loop-j
-decreases-loop-j l = l.count - l.j
+decreases-loop-j g l = g.B.Bank.SUBBANDS - l.j

@@ -12,7 +12,9 @@ use Rattle.sbc_encode_frame.proofs.Packed.{rows-kept, coding-packed, histories-a
 use Rattle.sbc_encode_frame.proofs.encode_frame.Goals as goal
 
 pub analyze_channel-left-requires : goal.analyze_channel-left-requires
-analyze_channel-left-requires c = asked c.args.parameters 0 _ _ c.requires.0 c.channels-channels.ensures (omega (arith, c.channels-channels.ensures, (channels-range c.args.parameters).0)) c.requires.1
+analyze_channel-left-requires c =
+    let all = asked c.args.parameters 0 _ _ c.requires.0 c.channels-channels.ensures (omega (arith, c.channels-channels.ensures, (channels-range c.args.parameters).0)) c.requires.1 in
+    (all.0, all.1, all.4)
 
 pub analyze_second-right-requires : goal.analyze_second-right-requires
 analyze_second-right-requires c = asked c.args.parameters 0 _ _ c.requires.0 c.channels-channels.ensures (omega (arith, c.channels-channels.ensures, (channels-range c.args.parameters).0)) c.requires.1

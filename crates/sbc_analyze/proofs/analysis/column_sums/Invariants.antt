@@ -8,7 +8,7 @@ use Rattle.sbc_analyze.specs.Fold.{column_sum}
 use Rattle.sbc_analyze.proofs.analysis.column_sums.Given as goal
 
 abbrev pub invariant-loop-i : goal.invariant-loop-i
-invariant-loop-i l = (l.i ≤ l.subbands / 2) × (l.sums ≡ build 4 (up_to l.i (column_sum l.subbands l.columns l.odd)))
+invariant-loop-i g l = (l.i ≤ g.B.Bank.SUBBANDS / 2) × (l.sums ≡ build 4 (up_to l.i (column_sum g.B.Bank.SUBBANDS l.columns l.odd)))
 
 abbrev pub decreases-loop-i : goal.decreases-loop-i
-decreases-loop-i l = l.subbands / 2 - l.i
+decreases-loop-i g l = g.B.Bank.SUBBANDS / 2 - l.i

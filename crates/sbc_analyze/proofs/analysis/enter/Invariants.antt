@@ -10,9 +10,9 @@ use Rattle.sbc_analyze.specs.Fold.{spliced_at, entering}
 use Rattle.sbc_analyze.proofs.analysis.enter.Given as goal
 
 abbrev pub invariant-loop-k : goal.invariant-loop-k
-invariant-loop-k l = (l.k ≤ l.subbands)
+invariant-loop-k g l = (l.k ≤ g.B.Bank.SUBBANDS)
     × (l.history ≡ build (length l.initial.history)
-    (spliced_at l.k (entering l.subbands l.input) (λ i. get_or l.initial.history i (pos 0))))
+    (spliced_at l.k (entering g.B.Bank.SUBBANDS l.input) (λ i. get_or l.initial.history i (pos 0))))
 
 abbrev pub decreases-loop-k : goal.decreases-loop-k
-decreases-loop-k l = l.subbands - l.k
+decreases-loop-k g l = g.B.Bank.SUBBANDS - l.k

@@ -7,26 +7,26 @@ use Rattle.sbc_filterbank.proofs.Bands.{bands-le}
 use Rattle.sbc_analyze.proofs.analysis.fold_all.Goals as goal
 
 pub loop-c-init : goal.loop-c-init
-loop-c-init c = (omega arith, fill_none 8 _)
+loop-c-init g c = (omega arith, fill_none 8 _)
 
 pub fold-requires : goal.fold-requires
-fold-requires c = (c.requires.0, c.loop-c-test.true, c.requires.1)
+fold-requires g c = (omega arith, c.requires)
 
 pub offset_bounds-columns-c : goal.offset_bounds-columns-c
-offset_bounds-columns-c c = omega (arith, bands-le c.requires.0)
+offset_bounds-columns-c g c = omega (arith, bands-le g.met.B.Bank.bands)
 
 pub bounds-columns-c : goal.bounds-columns-c
-bounds-columns-c c = omega (arith, bands-le c.requires.0)
+bounds-columns-c g c = omega (arith, bands-le g.met.B.Bank.bands)
 
 pub overflow_step-c : goal.overflow_step-c
-overflow_step-c c = omega (arith, bands-le c.requires.0)
+overflow_step-c g c = omega (arith, bands-le g.met.B.Bank.bands)
 
 pub loop-c-preserved : goal.loop-c-preserved
-loop-c-preserved c = (
+loop-c-preserved g c = (
   omega arith,
-  stored w32 8 _ _ _ _ (record { sfits = c.fold.type_inv }) (omega (arith, bands-le c.requires.0))
+  stored w32 8 _ _ _ _ (record { sfits = c.fold.type_inv }) (omega (arith, bands-le g.met.B.Bank.bands))
       c.loop-c.invariant.1 c.fold.ensures,
 )
 
 pub returns : goal.returns
-returns c = filled 8 _ _ _ _ (omega arith) (omega arith) c.loop-c.invariant.1
+returns g c = filled 8 _ _ _ _ (omega arith) (omega arith) c.loop-c.invariant.1

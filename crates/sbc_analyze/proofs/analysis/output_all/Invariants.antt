@@ -10,8 +10,8 @@ use Rattle.sbc_analyze.specs.Fold.{output_value}
 use Rattle.sbc_analyze.proofs.analysis.output_all.Given as goal
 
 abbrev pub invariant-loop-i : goal.invariant-loop-i
-invariant-loop-i l = (l.i ≤ l.subbands)
-    × (l.samples ≡ build 8 (up_to l.i (output_value l.subbands (λ n. get_or l.even n (pos 0)) (λ n. get_or l.odd n (pos 0)))))
+invariant-loop-i g l = (l.i ≤ g.B.Bank.SUBBANDS)
+    × (l.samples ≡ build 8 (up_to l.i (output_value g.B.Bank.SUBBANDS (λ n. get_or l.even n (pos 0)) (λ n. get_or l.odd n (pos 0)))))
 
 abbrev pub decreases-loop-i : goal.decreases-loop-i
-decreases-loop-i l = l.subbands - l.i
+decreases-loop-i g l = g.B.Bank.SUBBANDS - l.i

@@ -33,42 +33,42 @@ next S k j index X taps s x p i w tap sample fits e =
     (subst (λ (z : ℤ). nat_abs z ≤ 2 ^ 15) (sym read) (read_small w16 (get_or X index (pos 0)) sample))
 
 pub loop-index-init : goal.loop-index-init
-loop-index-init c = (omega arith, omega arith, summed-none _ _ _)
+loop-index-init g c = (omega arith, omega arith, summed-none _ _ _)
 
 pub bounds-taps-index : goal.bounds-taps-index
-bounds-taps-index c = omega (arith, ap length c.requires.2, prototype-length c.requires.0)
+bounds-taps-index g c = omega (arith, ap length c.prototype-taps.ensures, prototype-length g.met.B.Bank.bands)
 
 pub multiply_add-sum-requires : goal.multiply_add-sum-requires
-multiply_add-sum-requires c =
-    let more : c.loop-index.j < 5 = window_more _ _ _ c.requires.0 c.loop-index.invariant.1 c.loop-index-test.true in
-    let tap : mag (get_or c.args.taps.now c.loop-index.index (pos 0)) < 2 ^ 31 = omega arith in
+multiply_add-sum-requires g c =
+    let more : c.loop-index.j < 5 = window_more _ _ _ g.met.B.Bank.bands c.loop-index.invariant.1 (rw (c.SUBBANDS.ensures) at c.loop-index-test.true) in
+    let tap : mag (get_or c.prototype-taps.result.now c.loop-index.index (pos 0)) < 2 ^ 31 = omega arith in
     let sample : mag (get_or c.args.history.now c.loop-index.index (pos 0)) < 2 ^ 15 = omega arith in
-    let w = next c.args.subbands c.args.k c.loop-index.j c.loop-index.index c.args.history.now c.args.taps.now
+    let w = next g.B.Bank.SUBBANDS c.args.k c.loop-index.j c.loop-index.index c.args.history.now c.prototype-taps.result.now
     (to_z w64 c.loop-index.sum-bits)
-    c.from.result c.requires.2 c.loop-index.invariant.1 c.loop-index.invariant.2 tap sample c.from.type_inv c.from.ensures in
-    summed-fits w 5 400000000 (column-bound _ c.requires.0 c.requires.1) (omega (arith, more)) (lit< tt)
+    c.from.result c.prototype-taps.ensures c.loop-index.invariant.1 c.loop-index.invariant.2 tap sample c.from.type_inv c.from.ensures in
+    summed-fits w 5 400000000 (column-bound _ g.met.B.Bank.bands c.requires) (omega (arith, more)) (lit< tt)
 
 pub loop-index-smaller : goal.loop-index-smaller
-loop-index-smaller c =
-    let more : c.loop-index.j < 5 = window_more _ _ _ c.requires.0 c.loop-index.invariant.1 c.loop-index-test.true in
+loop-index-smaller g c =
+    let more : c.loop-index.j < 5 = window_more _ _ _ g.met.B.Bank.bands c.loop-index.invariant.1 (rw (c.SUBBANDS.ensures) at c.loop-index-test.true) in
     omega (arith, more)
 
 pub loop-index-preserved : goal.loop-index-preserved
-loop-index-preserved c =
-    let more : c.loop-index.j < 5 = window_more _ _ _ c.requires.0 c.loop-index.invariant.1 c.loop-index-test.true in
-    let tap : mag (get_or c.args.taps.now c.loop-index.index (pos 0)) < 2 ^ 31 = omega arith in
+loop-index-preserved g c =
+    let more : c.loop-index.j < 5 = window_more _ _ _ g.met.B.Bank.bands c.loop-index.invariant.1 (rw (c.SUBBANDS.ensures) at c.loop-index-test.true) in
+    let tap : mag (get_or c.prototype-taps.result.now c.loop-index.index (pos 0)) < 2 ^ 31 = omega arith in
     let sample : mag (get_or c.args.history.now c.loop-index.index (pos 0)) < 2 ^ 15 = omega arith in
-    let w = next c.args.subbands c.args.k c.loop-index.j c.loop-index.index c.args.history.now c.args.taps.now
+    let w = next g.B.Bank.SUBBANDS c.args.k c.loop-index.j c.loop-index.index c.args.history.now c.prototype-taps.result.now
     (to_z w64 c.loop-index.sum-bits)
-    c.from.result c.requires.2 c.loop-index.invariant.1 c.loop-index.invariant.2 tap sample c.from.type_inv c.from.ensures in (
+    c.from.result c.prototype-taps.ensures c.loop-index.invariant.1 c.loop-index.invariant.2 tap sample c.from.type_inv c.from.ensures in (
       omega (arith, more),
-      window-step _ _ _ c.requires.0 c.loop-index.invariant.1,
-      subst (WindowSummed c.args.subbands c.args.history.now c.args.k (c.loop-index.j + 1))
+      rw (c.SUBBANDS-in-loop-index.ensures) (window-step _ _ _ g.met.B.Bank.bands c.loop-index.invariant.1),
+      subst (WindowSummed g.B.Bank.SUBBANDS c.args.history.now c.args.k (c.loop-index.j + 1))
           (sym (read_back w64 c.multiply_add-sum.type_inv ∙ c.multiply_add-sum.ensures)) w,
     )
 
 pub returns : goal.returns
-returns c =
+returns g c =
     let turn = c.loop-index in
-    let done = window-done _ _ _ c.requires.0 turn.invariant.1 c.requires.1 c.loop-index-test.false in
-    summed-all turn.invariant.2 5 400000000 (column-bound _ c.requires.0 c.requires.1) (omega arith)
+    let done = window-done _ _ _ g.met.B.Bank.bands turn.invariant.1 c.requires (rw (c.SUBBANDS.ensures) at c.loop-index-test.false) in
+    summed-all turn.invariant.2 5 400000000 (column-bound _ g.met.B.Bank.bands c.requires) (omega arith)

@@ -7,9 +7,9 @@ use Rattle.sbc_analyze.proofs.Windows.{WindowSummed}
 use Rattle.sbc_analyze.proofs.analysis.window_sum.Given as goal
 
 abbrev pub invariant-loop-index : goal.invariant-loop-index
-invariant-loop-index l =
-    (l.j ≤ 5) × (l.index ≡ l.k + 2 * l.subbands * l.j)
-    × (WindowSummed l.subbands l.history l.k l.j l.sum)
+invariant-loop-index g l =
+    (l.j ≤ 5) × (l.index ≡ l.k + 2 * g.B.Bank.SUBBANDS * l.j)
+    × (WindowSummed g.B.Bank.SUBBANDS l.history l.k l.j l.sum)
 
 abbrev pub decreases-loop-index : goal.decreases-loop-index
-decreases-loop-index l = 5 - l.j
+decreases-loop-index g l = 5 - l.j

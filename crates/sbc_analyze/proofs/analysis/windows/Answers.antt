@@ -27,16 +27,16 @@ unfolding windowed
 divided S k X z fits e = ap (λ (y : ℤ). floor_div y (2 ^ 15)) (read_back w64 fits ∙ e)
 
 pub overflow_mul-k-end : goal.overflow_mul-k-end
-overflow_mul-k-end c = omega (arith, bands-le c.requires.0)
+overflow_mul-k-end g c = omega (arith, bands-le g.met.B.Bank.bands)
 
 pub loop-k-init : goal.loop-k-init
-loop-k-init c = (omega arith, fill_none 16 _, λ i h. absurd (omega arith))
+loop-k-init g c = (omega arith, fill_none 16 _, λ i h. absurd (omega arith))
 
 pub window_sum-requires : goal.window_sum-requires
-window_sum-requires c = (c.requires.0, c.loop-k-test.true, c.requires.1)
+window_sum-requires g c = omega arith
 
 pub shift_down-requires : goal.shift_down-requires
-shift_down-requires c =
+shift_down-requires g c =
     let small : nat_abs (floor_div (to_z w64 (of_z w64 c.window_sum.result)) (2 ^ 15)) ≤ 400000000 =
     window-small (to_z w64 (of_z w64 c.window_sum.result))
     (subst (λ (z : ℤ). nat_abs z ≤ 400000000 * 2 ^ 15) (sym (read_back w64 {z = c.window_sum.result} c.window_sum.type_inv))
@@ -44,31 +44,31 @@ shift_down-requires c =
     (lit< tt, within-fits w32 (floor_div (to_z w64 (of_z w64 c.window_sum.result)) (2 ^ 15)) small (lit< tt))
 
 pub offset_bounds-partial-k : goal.offset_bounds-partial-k
-offset_bounds-partial-k c = omega (arith, bands-le c.requires.0)
+offset_bounds-partial-k g c = omega (arith, bands-le g.met.B.Bank.bands)
 
 pub bounds-partial-k : goal.bounds-partial-k
-bounds-partial-k c = omega (arith, bands-le c.requires.0)
+bounds-partial-k g c = omega (arith, bands-le g.met.B.Bank.bands)
 
 pub overflow_step-k : goal.overflow_step-k
-overflow_step-k c = omega (arith, bands-le c.requires.0)
+overflow_step-k g c = omega (arith, bands-le g.met.B.Bank.bands)
 
 pub loop-k-preserved : goal.loop-k-preserved
-loop-k-preserved c =
+loop-k-preserved g c =
     let small : nat_abs (floor_div (to_z w64 (of_z w64 c.window_sum.result)) (2 ^ 15)) ≤ 400000000 =
     window-small (to_z w64 (of_z w64 c.window_sum.result))
     (subst (λ (z : ℤ). nat_abs z ≤ 400000000 * 2 ^ 15) (sym (read_back w64 {z = c.window_sum.result} c.window_sum.type_inv))
     c.window_sum.ensures.1) in
     let turn = c.loop-k in
-    let is = divided c.args.subbands turn.k c.args.history.now c.window_sum.result c.window_sum.type_inv c.window_sum.ensures.0 in (
+    let is = divided g.B.Bank.SUBBANDS turn.k c.args.history.now c.window_sum.result c.window_sum.type_inv c.window_sum.ensures.0 in (
       omega arith,
-      stored w32 16 _ _ _ _ (record { sfits = c.shift_down.type_inv }) (omega (arith, bands-le c.requires.0)) turn.invariant.1
+      stored w32 16 _ _ _ _ (record { sfits = c.shift_down.type_inv }) (omega (arith, bands-le g.met.B.Bank.bands)) turn.invariant.1
           (c.shift_down.ensures ∙ is),
-      all-next (λ (i : ℕ). nat_abs (windowed c.args.subbands c.args.history.now i) ≤ 400000000) turn.k turn.invariant.2
+      all-next (λ (i : ℕ). nat_abs (windowed g.B.Bank.SUBBANDS c.args.history.now i) ≤ 400000000) turn.k turn.invariant.2
           (subst (λ (z : ℤ). nat_abs z ≤ 400000000) is small),
     )
 
 pub returns : goal.returns
-returns c =
+returns g c =
     let turn = c.loop-k in (
       filled 16 _ _ _ _ (omega arith) (omega arith) turn.invariant.1,
       subst (Within 400000000) (sym turn.invariant.1) (within-up_to 16 turn.k 400000000 _ turn.invariant.2),

@@ -10,9 +10,9 @@ use Rattle.sbc_filterbank.specs.Analysis.{windowed}
 use Rattle.sbc_analyze.proofs.analysis.windows.Given as goal
 
 abbrev pub invariant-loop-k : goal.invariant-loop-k
-invariant-loop-k l =
-    (l.k ≤ 2 * l.subbands) × (l.partial ≡ build 16 (up_to l.k (windowed l.subbands l.history)))
-    × ((i : ℕ) → i < l.k → nat_abs (windowed l.subbands l.history i) ≤ 400000000)
+invariant-loop-k g l =
+    (l.k ≤ 2 * g.B.Bank.SUBBANDS) × (l.partial ≡ build 16 (up_to l.k (windowed g.B.Bank.SUBBANDS l.history)))
+    × ((i : ℕ) → i < l.k → nat_abs (windowed g.B.Bank.SUBBANDS l.history i) ≤ 400000000)
 
 abbrev pub decreases-loop-k : goal.decreases-loop-k
-decreases-loop-k l = 2 * l.subbands - l.k
+decreases-loop-k g l = 2 * g.B.Bank.SUBBANDS - l.k

@@ -1,9 +1,0 @@
--- `sbc_tables::loudness_offsets_of_8` meets its contract: the constant is the definition, entry by entry.
--- Assumes nothing.
-use mathlib.Core.Path.{refl}
-use Rattle.sbc_tables.specs.Tables.{loudness_offsets, loudness_offsets8}
-use Rattle.sbc_tables.proofs.loudness_offsets_of_8.Goals as goal
-
-pub returns : goal.returns
-unfolding loudness_offsets loudness_offsets8
-returns c = refl
