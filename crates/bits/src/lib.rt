@@ -20,7 +20,7 @@ pub struct Read {
 }
 
 // Whether `count` bits, at most 32, stand from bit `position` on in the bytes.
-#[tactic(auto, using(std::proofs::lemmas::Grind::common_steps), unfolding(crate::specs::Fields::inside, crate::specs::Fields::bit_end),)]
+#[tactic(auto, unfolding(crate::specs::Fields::inside, crate::specs::Fields::bit_end))]
 fn is_inside(bytes: &[u8], position: usize, count: u32) -> bool
     ensures { result ≡ inside bytes.now position count }
 {
@@ -60,7 +60,7 @@ fn number_at(bytes: &[u8], position: usize, count: u32) -> u32
 }
 
 // `count` bits from bit `position` on: 0 for no bits, and Incomplete past the end.
-#[tactic(auto, using(crate::proofs::Ends::inside_true), unfolding(crate::specs::Fields::told_read, crate::specs::Fields::read_at),)]
+#[tactic(auto, using(crate::proofs::Ends::inside_true), unfolding(crate::specs::Fields::told_read, crate::specs::Fields::read_at))]
 pub fn read_at(bytes: &[u8], position: usize, count: u32) -> Result<Read, Error>
     ensures { told_read position result ≡ read_at bytes.now position count }
 {
@@ -111,7 +111,7 @@ fn overwrite(bytes: &mut [u8], position: usize, value: u32, count: u32)
 
 // The low `count` bits of `value` from bit `position` on, over what stood there, and the position after them; BufferTooSmall, and nothing
 // written, past the end.
-#[tactic(auto, using(crate::proofs::Ends::inside_true), unfolding(crate::specs::Fields::told_written, crate::specs::Fields::write_at),)]
+#[tactic(auto, using(crate::proofs::Ends::inside_true), unfolding(crate::specs::Fields::told_written, crate::specs::Fields::write_at))]
 pub fn write_at(bytes: &mut [u8], position: usize, value: u32, count: u32) -> Result<usize, Error>
     ensures { told_written position result bytes.new ≡ write_at bytes.old position value count }
 {

@@ -11,7 +11,7 @@ const POLYNOMIAL: u8 = 0x1D;
 const START: u8 = 0x0F;
 
 // The register after one bit, the low bit of `bit`.
-#[tactic(auto, using(crate::proofs::Registers::step_test, std::proofs::lemmas::Grind::common_steps))]
+#[tactic(auto, using(crate::proofs::Registers::step_test))]
 fn step(crc: u8, bit: u8) -> u8
     ensures { result ≡ crc_step crc (odd bit) }
 {

@@ -21,41 +21,20 @@ pub fn read_on<R: Read>(reader: &mut R, bytes: &mut [u8], held: usize) -> usize
     ensures length { length bytes.new ≡ length bytes.old }
     ensures bytes { Consumes (R.remaining reader.old) (R.remaining reader.new) (take result (drop held bytes.new)) }
 {
-    read_some(reader, &mut bytes[held..])
-}
-
-fn read_some<R: Read>(reader: &mut R, room: &mut [u8]) -> usize
-    ensures came { result ≤ length room.old }
-    ensures bytes { Consumes (R.remaining reader.old) (R.remaining reader.new) (take result room.new) }
-{
-    match reader.read(room) {
-        Ok(count) => count,
-        Err(_) => 0,
-    }
+    reader.read(&mut bytes[held..]).unwrap_or(0)
 }
 
 // Keeps of the first `held` bytes those behind the first `used`: they move to the front. Answers how many they are.
+#[tactic(auto, unfolding(crate::specs::Kept::keeps, crate::specs::Kept::kept_count, crate::specs::Kept::kept))]
 pub fn keep(bytes: &mut [u8], used: usize, held: usize) -> usize
     ensures kept { result ≡ kept_count (length bytes.old) used held }
     ensures bytes { bytes.new ≡ kept bytes.old used held }
 {
-    if held > bytes.len() {
+    if bytes.len() < held || held < used {
         return 0;
     }
-    if used > held {
-        return 0;
-    }
-    to_front(bytes, used, held - used);
+    bytes.copy_within(used..held, 0);
     held - used
-}
-
-fn to_front(bytes: &mut [u8], from: usize, count: usize)
-    requires { from + count ≤ length bytes.old }
-    ensures { bytes.new ≡ take count (drop from bytes.old) ++ drop count bytes.old }
-{
-    for i in 0..count {
-        bytes[i] = bytes[from + i];
-    }
 }
 
 // Says a refusal's number on standard error.
