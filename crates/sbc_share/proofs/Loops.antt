@@ -1,67 +1,65 @@
--- What a loop over a group's needs or bits has still to come, at an index: a step and the end, of each sum, bound and list that it makes.
+-- What the loops and chains over a group's needs or bits give, in the words of the definitions.
 -- Assumes nothing.
-use mathlib.Core.Path.{◌≡◌, refl}
+use mathlib.Core.Path.{◌≡◌, refl, ◌∙◌}
 use mathlib.Core.List.{List, [], ◌∷◌, map}
-use Prim.Native.Nat.{ℕ, zero, suc, ◌+◌, ◌-◌, ◌≤◌, ◌<◌, min, max}
+use Prim.Native.Nat.{ℕ, zero, suc, ◌+◌, ◌-◌, ◌*◌, ◌≤◌, ◌<◌, min, max}
 use native.Mathlib.Omega.{arith}
 use lib.ListN.{length, get_or, drop, set, drop_of_length-le}
-use borrow.Author.Tests.{lt-ltb, le-ltb}
+use borrow.Author.Tests.{lt-ltb, le-ltb, ltb-false}
+use mathlib.Core.Bool.{Bool, true, false}
+use lib.Dec.{ltb}
+use Rattle.std.proofs.Common.{None, nat_lt}
 use Rattle.laws.proofs.Arrays.{from-here}
-use Rattle.sbc_share.specs.Share.{sum, base_bits, round_gain, round_bits, last_bit}
+use Rattle.std.specs.List.{fold, sum_by, position, position_or_len}
+use Rattle.std.proofs.lemmas.List.Recursion.{is_sum_by}
+use Rattle.sbc_share.specs.Share.{sum, level_part, level_bits, base_bits, round_gain, round_bits, last_bit}
+use Rattle.sbc_share.proofs.Padded.{length-excesses}
+use Rattle.sbc_share.proofs.Sharing.{grown, part-grown}
 use Rattle.sbc_share.specs.Raised.{greatest_raised, least_raised, excesses}
 
--- ---- a sum of f over the heights
+-- ---- the library's words for a group's sums and bounds
 
-pub rest : (ℕ → ℕ) → ℕ → List ℕ → ℕ → ℕ
-rest f level ns i = sum (map f (excesses level (drop i ns)))
+pub heights_sum : (f : ℕ → ℕ) (level : ℕ) (ns : List ℕ) → sum (map f (excesses level ns)) ≡ sum_by (λ n. f (n - level)) ns
+unfolding sum excesses
+heights_sum f level = is_sum_by (λ ns. sum (map f (excesses level ns))) (λ n. f (n - level)) refl (λ n ns. refl)
 
-pub rest_all : (f : ℕ → ℕ) (level : ℕ) (ns : List ℕ) → rest f level ns 0 ≡ sum (map f (excesses level ns))
-unfolding rest
-rest_all f level ns = refl
+pub level_sum : (level : ℕ) (ns : List ℕ) → level_bits (excesses level ns) ≡ sum_by (λ n. level_part (n - level)) ns
+unfolding level_bits
+level_sum level ns = heights_sum level_part level ns
 
-pub rest-step : (f : ℕ → ℕ) (level : ℕ) (ns : List ℕ) (i : ℕ) → i < length ns
-    → rest f level ns i ≡ f (get_or ns i 0 - level) + rest f level ns (i + 1)
-unfolding rest excesses sum
-rest-step f level ns i h = rw (from-here ns i h) refl
+-- at most two bits of each need
+two_each : (ks : List ℕ) → level_bits ks ≤ 2 * length ks
+unfolding level_bits sum grown
+two_each [] = omega arith
+two_each (k ∷ ks) = omega (arith, two_each ks, part-grown k)
 
-pub rest_end : (f : ℕ → ℕ) (level : ℕ) (ns : List ℕ) (i : ℕ) → length ns ≤ i → rest f level ns i ≡ 0
-unfolding rest excesses sum
-rest_end f level ns i h = rw (drop_of_length-le ns h) refl
+pub level_few : (level : ℕ) (ns : List ℕ) → sum_by (λ n. level_part (n - level)) ns ≤ 2 * length ns
+level_few level ns = omega (arith, level_sum level ns, two_each (excesses level ns), length-excesses level ns)
 
--- ---- the greatest and the least
-
-pub greatest-step : (x : ℕ) (ns : List ℕ) (i : ℕ) → i < length ns
-    → greatest_raised x (drop i ns) ≡ max (get_or ns i 0) (greatest_raised x (drop (i + 1) ns))
-unfolding greatest_raised
-greatest-step x ns i h = rw (from-here ns i h) refl
-
-pub greatest-end : (x : ℕ) (ns : List ℕ) (i : ℕ) → length ns ≤ i → greatest_raised x (drop i ns) ≡ x
-unfolding greatest_raised
-greatest-end x ns i h = rw (drop_of_length-le ns h) refl
-
-pub least_step : (x : ℕ) (ns : List ℕ) (i : ℕ) → i < length ns
-    → least_raised x (drop i ns) ≡ min (get_or ns i 0) (least_raised x (drop (i + 1) ns))
-unfolding least_raised
-least_step x ns i h = rw (from-here ns i h) refl
-
-pub least-end : (x : ℕ) (ns : List ℕ) (i : ℕ) → length ns ≤ i → least_raised x (drop i ns) ≡ x
-unfolding least_raised
-least-end x ns i h = rw (drop_of_length-le ns h) refl
-
-pub least-at-most : (x : ℕ) (ns : List ℕ) → least_raised x ns ≤ x
-unfolding least_raised
-least-at-most x [] = omega arith
-least-at-most x (n ∷ ns) = omega (arith, least-at-most x ns)
-
--- ---- a sum of bits
-
-pub sum_step : (xs : List ℕ) (i : ℕ) → i < length xs → sum (drop i xs) ≡ get_or xs i 0 + sum (drop (i + 1) xs)
+pub bits_sum : (xs : List ℕ) → sum xs ≡ sum_by (λ x. x) xs
 unfolding sum
-sum_step xs i h = rw (from-here xs i h) refl
+bits_sum = is_sum_by sum (λ x. x) refl (λ x xs. refl)
 
-pub sum-end : (xs : List ℕ) (i : ℕ) → length xs ≤ i → sum (drop i xs) ≡ 0
-unfolding sum
-sum-end xs i h = rw (drop_of_length-le xs h) refl
+greatest-later : (n m : ℕ) (ms : List ℕ) → max m (greatest_raised n ms) ≡ greatest_raised (max n m) ms
+unfolding greatest_raised
+greatest-later n m [] = omega arith
+greatest-later n m (k ∷ ms) = omega (arith, greatest-later n m ms)
+
+least-later : (n m : ℕ) (ms : List ℕ) → min m (least_raised n ms) ≡ least_raised (min n m) ms
+unfolding least_raised
+least-later n m [] = omega arith
+least-later n m (k ∷ ms) = omega (arith, least-later n m ms)
+
+-- the fold goes from the front, and the definition from the end
+pub greatest_fold : (n : ℕ) (ns : List ℕ) → greatest_raised n ns ≡ fold max n ns
+unfolding greatest_raised
+greatest_fold n [] = refl
+greatest_fold n (m ∷ ms) = greatest-later n m ms ∙ greatest_fold (max n m) ms
+
+pub least_fold : (n : ℕ) (ns : List ℕ) → least_raised n ns ≡ fold min n ns
+unfolding least_raised
+least_fold n [] = refl
+least_fold n (m ∷ ms) = least-later n m ms ∙ least_fold (min n m) ms
 
 -- ---- the round
 
@@ -78,6 +76,23 @@ round-end level ns i left h = rw (drop_of_length-le ns h) refl
 
 -- ---- the last bit
 
+past-all : (xs : List ℕ) → length xs ≤ position_or_len (λ b. ltb b 16) xs → last_bit 1 xs ≡ xs
+unfolding last_bit
+past-all [] h = refl
+past-all (x ∷ xs) h = at (ltb x 16) refl (past-all xs)
+  where
+    at : (t : Bool) → ltb x 16 ≡ t → (length xs ≤ position_or_len (λ b. ltb b 16) xs → last_bit 1 xs ≡ xs) → last_bit 1 (x ∷ xs) ≡ x ∷ xs
+    at true t later = absurd (let k = rw t at h in omega arith)
+    at false t later = let k = rw t at h in rw (t, later (omega arith)) refl
+
+-- no one has room: the library finds none
+pub none-found : (xs : List ℕ) → None ≡ position (λ b. nat_lt b 16) xs → last_bit 1 xs ≡ xs
+none-found xs e = go (ltb (position_or_len (λ b. ltb b 16) xs) (length xs)) refl
+  where
+    go : (t : Bool) → ltb (position_or_len (λ b. ltb b 16) xs) (length xs) ≡ t → last_bit 1 xs ≡ xs
+    go true t = absurd (let k = rw t at e in cc)
+    go false t = past-all xs (ltb-false _ _ t)
+
 pub last_found : (xs : List ℕ) (i : ℕ) → i < length xs → ((j : ℕ) → j < i → 16 ≤ get_or xs j 0) → get_or xs i 0 < 16
     → last_bit 1 xs ≡ set xs i (get_or xs i 0 + 1)
 unfolding last_bit
@@ -85,8 +100,3 @@ last_found [] i h full room = absurd (omega arith)
 last_found (x ∷ xs) zero h full room = rw (lt-ltb x 16 room) refl
 last_found (x ∷ xs) (suc i) h full room =
     rw (le-ltb x 16 (full 0 (omega arith)), last_found xs i (omega arith) (λ j l. full (suc j) (omega arith)) room) refl
-
-pub last_none : (xs : List ℕ) → ((j : ℕ) → j < length xs → 16 ≤ get_or xs j 0) → last_bit 1 xs ≡ xs
-unfolding last_bit
-last_none [] full = refl
-last_none (x ∷ xs) full = rw (le-ltb x 16 (full 0 (omega arith)), last_none xs (λ j l. full (suc j) (omega arith))) refl

@@ -23,7 +23,7 @@ last-any zero xs h = absurd (omega arith)
 last-any (suc left) [] h = refl
 last-any (suc left) (x ∷ xs) h = rw (last-any (suc left) xs h) refl
 
-length-excesses : (level : ℕ) (ns : List ℕ) → length (excesses level ns) ≡ length ns
+pub length-excesses : (level : ℕ) (ns : List ℕ) → length (excesses level ns) ≡ length ns
 unfolding excesses
 length-excesses level [] = refl
 length-excesses level (n ∷ ns) = ap suc (length-excesses level ns)

@@ -35,6 +35,25 @@ part-grown k =
     (λ l. omega (arith, leb-false 2 k l, eqb-false k 1 e))
     (λ h. omega (arith, leb-false k 15 h)))
 
+-- each case alone, as the tactics apply it
+pub part_low : (k : ℕ) → k ≡ 0 → level_part k ≡ 0
+unfolding grown
+part_low k e = omega (arith, part-grown k)
+
+pub part_two : (k : ℕ) → k ≡ 1 → level_part k ≡ 2
+unfolding grown
+part_two k e = omega (arith, part-grown k)
+
+pub part_one : (k : ℕ) → 2 ≤ k → k ≤ 15 → level_part k ≡ 1
+unfolding grown
+part_one k l h = omega (arith, part-grown k)
+
+pub part_full : (k : ℕ) → 16 ≤ k → level_part k ≡ 0
+unfolding grown
+part_full k h = omega (arith, part-grown k)
+
+pub ruleset part_cases = (part_low, part_two, part_one, part_full)
+
 -- the base is the count above the level
 pub base-grown : (k : ℕ) → base_bits k ≡ grown (k - 1)
 unfolding base_bits grown
