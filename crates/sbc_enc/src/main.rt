@@ -8,175 +8,77 @@
 
 mod settings;
 
-ghost use Rattle.std.specs.Prelude.{◌≡◌, ◌*◌, ◌≤◌, length};
+ghost use Rattle.std.specs.Prelude.{◌≡◌, ◌*◌, ◌/◌, min, take, length};
+ghost use Rattle.pcm.specs.Samples.{samples_in};
+ghost use Rattle.sbc_encoder.specs.Encode.{encode};
+ghost use Rattle.sbc_encoder.specs.Told.{told_encoded};
 
-use codec::{Coded, Error, Progress};
-use sbc_encoder::{EncodeResult, SbcEncoder};
-use sbc_parameters::{Parsed, SbcParameters, Validated};
+use codec::Coded;
+use sbc_encoder::SbcEncoder;
+use sbc_parameters::Validated;
+use std::env::Env;
 use std::io;
-use std::io::Read;
+use stream::{Coder, Stop};
 
-// The encoder, the bytes at the front of the raw buffer that it has not taken yet, and whether the program goes on.
-#[derive(Clone, Copy)]
-struct Stream {
+// The encoder, and the buffers that a part of the input passes through: its samples, and the frames that are written. The buffer of frames
+// holds what a full buffer of samples becomes: at most 2.4 bytes a sample.
+#[derive(Drop)]
+struct Encoding {
     encoder: SbcEncoder,
-    held: usize,
-    going: bool,
+    samples: [i16; 16384],
+    frames: [u8; 65536],
 }
 
-// Encodes the samples of the raw bytes.
-fn encode(encoder: SbcEncoder, raw: &[u8], samples: &mut [i16], bytes: &mut [u8]) -> EncodeResult
-    requires { length raw.now ≡ 2 * length samples.old }
-{
-    pcm::read(raw, samples);
-    encoder.encoded(samples, bytes)
-}
+impl Coder for Encoding {
+    ghost use Rattle.std.specs.Prelude.{◌≡◌, ◌*◌, ◌/◌, ℕ, min, take, length};
+    ghost use Rattle.laws.specs.Answers.{gives};
+    ghost use Rattle.codec.specs.Answers.{progress_of};
+    ghost use Rattle.pcm.specs.Samples.{samples_in};
+    ghost use Rattle.sbc_encoder.specs.Encode.{encode};
 
-fn encode_first(
-    encoder: SbcEncoder,
-    raw: &[u8],
-    samples: &mut [i16],
-    bytes: &mut [u8],
-    count: usize,
-) -> EncodeResult
-    requires { (2 * count ≤ length raw.now) × (count ≤ length samples.old) }
-{
-    encode(encoder, &raw[..2 * count], &mut samples[..count], bytes)
-}
+    // What an encode call says of the samples.
+    ghost codes = { λ old raw used new. let count = min (length raw / 2) (length old.samples) in
+        (consumed : ℕ) × (produced : ℕ) × (used ≡ 2 * consumed)
+        × (encode old.encoder (samples_in count (take (2 * count) raw)) old.frames
+        ≡ record { answer = gives (progress_of consumed produced); encoder = new.encoder; output = new.frames }) };
 
-// Writes the first bytes, and answers whether there are so many.
-fn write_first(rt: &impl Print, bytes: &[u8], count: usize) -> io::Result<bool> {
-    if count > bytes.len() {
-        return Ok(false);
-    }
-    rt.write_all(&bytes[..count])?;
-    Ok(true)
-}
-
-impl Stream {
-    fn stopped(mut self) -> Stream {
-        self.going = false;
-        self
-    }
-
-    fn refused(self, rt: &impl Eprint, error: Error) -> io::Result<Stream> {
-        stream::report(rt, error.number())?;
-        Ok(self.stopped())
-    }
-
-    // Reads on, since no whole frame is held.
-    fn read_on<R: Read>(mut self, input: &mut R, raw: &mut [u8]) -> Stream {
-        let held = self.held;
-        if held > raw.len() {
-            return self.stopped();
-        }
-        let got = stream::read_on(input, raw, held);
-        if got == 0 {
-            return self.stopped();
-        }
-        self.held = held + got;
-        self
-    }
-
-    // Some frames were encoded.
-    fn advanced(
-        mut self,
-        rt: &impl Print,
-        progress: Progress,
-        raw: &mut [u8],
-        bytes: &[u8],
-    ) -> io::Result<Stream> {
-        let consumed = progress.consumed;
-        if consumed > raw.len() / 2 {
-            return Ok(self.stopped());
-        }
-        if !write_first(rt, bytes, progress.produced)? {
-            return Ok(self.stopped());
-        }
-        let held = stream::keep(raw, 2 * consumed, self.held);
-        self.held = held;
-        Ok(self)
-    }
-
-    // The next frames, or more of the input.
-    fn next<R: Read>(
-        mut self,
-        rt: &(impl Print + Eprint),
-        input: &mut R,
-        raw: &mut [u8],
-        samples: &mut [i16],
-        bytes: &mut [u8],
-    ) -> io::Result<Stream> {
-        let count = self.held / 2;
-        if count > raw.len() / 2 {
-            return Ok(self.stopped());
-        }
-        if count > samples.len() {
-            return Ok(self.stopped());
-        }
-        let encoder = self.encoder;
-        let result = encode_first(encoder, raw, samples, bytes, count);
-        let after = result.encoder;
-        self.encoder = after;
-        let answer = result.answer;
-        match answer {
+    fn code(&mut self, rt: &impl Print, raw: &[u8]) -> Result<usize, Stop> {
+        match encode(&mut self.encoder, raw, &mut self.samples, &mut self.frames) {
             Coded::Done(progress) => {
-                if progress.consumed == 0 {
-                    return Ok(self.read_on(input, raw));
-                }
-                self.advanced(rt, progress, raw, bytes)
+                rt.write_all(&self.frames[..progress.produced])?;
+                Ok(2 * progress.consumed)
             }
-            Coded::Refused(error) => self.refused(rt, error),
+            Coded::Refused(error) => Err(Stop::Refused(error)),
         }
     }
 }
 
-// A proved loop has to end, and nothing says that the input does. So the loop counts its turns, up to a number that no run uses up.
-fn run(
-    rt: &(impl Input + Print + Eprint),
-    encoder: SbcEncoder,
-    raw: &mut [u8],
-    samples: &mut [i16],
-    bytes: &mut [u8],
-) -> io::Result<()> {
-    let mut input = rt.reader();
-    let mut stream = Stream {
-        encoder,
-        held: 0,
-        going: true,
-    };
-    for _ in 0..u64::MAX {
-        if !stream.going {
-            break;
-        }
-        stream = stream.next(rt, &mut input, raw, samples, bytes)?;
-    }
-    Ok(())
+// Encodes the samples of the raw bytes, as many as there is room for.
+fn encode(encoder: &mut SbcEncoder, raw: &[u8], samples: &mut [i16], frames: &mut [u8]) -> Coded
+    ensures { let count = min (length raw.now / 2) (length samples.old) in
+        told_encoded (record { answer = result; encoder = encoder.new }) frames.new
+        ≡ encode encoder.old (samples_in count (take (2 * count) raw.now)) frames.old }
+{
+    let count = (raw.len() / 2).min(samples.len());
+    let samples = &mut samples[..count];
+    pcm::read(&raw[..2 * count], samples);
+    encoder.encode(samples, frames)
 }
 
-// The buffer of bytes holds what a full buffer of samples becomes: at most 2.4 bytes a sample.
-fn encode_all(rt: &(impl Input + Print + Eprint), encoder: SbcEncoder) -> io::Result<()> {
+fn encode_all(rt: &(impl Env + AllocGlobal + Input + Print)) -> Result<(), Stop> {
+    let created = SbcEncoder::new(settings::of_arguments(rt)?);
+    if let Validated::Refused(error) = created.outcome {
+        return Err(Stop::Refused(error));
+    }
     let mut raw = [0u8; 32768];
-    let mut samples = [0i16; 16384];
-    let mut bytes = [0u8; 65536];
-    run(rt, encoder, &mut raw, &mut samples, &mut bytes)
-}
-
-fn start(rt: &(impl Input + Print + Eprint), parameters: SbcParameters) -> io::Result<()> {
-    let created = SbcEncoder::new(parameters);
-    let outcome = created.outcome;
-    match outcome {
-        Validated::Accepted => {
-            let encoder = created.encoder;
-            encode_all(rt, encoder)
-        }
-        Validated::Refused(error) => stream::report(rt, error.number()),
-    }
+    let mut encoding = Encoding {
+        encoder: created.encoder,
+        samples: [0; 16384],
+        frames: [0; 65536],
+    };
+    stream::run(&mut encoding, rt, &mut rt.reader(), &mut raw)
 }
 
 fn main(rt: HostRuntime) -> io::Result<()> {
-    match settings::of_arguments(&rt) {
-        Parsed::Parameters(parameters) => start(&rt, parameters),
-        Parsed::Refused(error) => stream::report(&rt, error.number()),
-    }
+    stream::told(&rt, encode_all(&rt))
 }

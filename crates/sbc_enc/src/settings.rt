@@ -1,130 +1,74 @@
 // The encoder's parameters, from the program's arguments.
-ghost use Rattle.std.specs.Prelude.{◌≤◌, length};
-
 use codec::Error;
 use sbc_modes::{SbcAllocation, SbcChannelMode};
-use sbc_parameters::{Parsed, SbcParameters};
+use sbc_parameters::SbcParameters;
 use std::env::{Env, FillError};
+use std::num::ParseIntError;
+use std::str::FromStr;
+use std::{io, str};
+use stream::Stop;
 
-// A digit's number, or 10 for another byte.
-fn digit(b: u8) -> u32
-    ensures { result ≤ 10 }
-{
-    match b {
-        b'0'..=b'9' => (b - 48) as u32,
-        _ => 10,
-    }
-}
+// The bytes of the longest word that a setting may have.
+const LONGEST: usize = 16;
 
-// A decimal number, or 0, which no setting takes, where the word is none or says more than a billion.
-fn decimal(word: &[u8]) -> u32 {
-    let mut n: u32 = 0;
-    let mut i = 0;
-    while i < word.len() {
-        let d = digit(word[i]);
-        if d > 9 {
-            return 0;
+// The words behind the program's name. One that is no text, or too long, is no setting.
+//
+// Kept: `env::args` would refuse a program's name that is no text, too, and this program takes any name.
+fn words(rt: &(impl Env + AllocGlobal)) -> Result<Vec<String>, Stop> {
+    let mut words = Vec::new(rt.alloc());
+    for i in 1..usize::MAX {
+        let mut space = [0u8; LONGEST];
+        match rt.arg(i, &mut space) {
+            Ok(count) => {
+                let word = str::from_utf8(&space[..count]).map_err(|_| Error::InvalidParameter)?;
+                let word = String::from_str(rt.alloc(), word).map_err(io::Error::from)?;
+                words.push(word).map_err(io::Error::from)?;
+            }
+            Err(FillError::TooLong) => return Err(Stop::Refused(Error::InvalidParameter)),
+            Err(FillError::NotPresent) => break,
         }
-        if n > 100_000_000 {
-            return 0;
-        }
-        n = 10 * n + d;
-        i += 1;
     }
-    n
+    Ok(words)
 }
 
-// The number of a mode's word, or 4.
-fn mode_number(word: &[u8]) -> u8 {
+// A number of digits alone.
+fn number<N: FromStr<Err = ParseIntError>>(word: &str) -> Result<N, Error> {
+    if word.starts_with('+') {
+        return Err(Error::InvalidParameter);
+    }
+    word.parse().map_err(|_| Error::InvalidParameter)
+}
+
+fn channel_mode(word: &str) -> Result<SbcChannelMode, Error> {
     match word {
-        b"mono" => 0,
-        b"dual" => 1,
-        b"stereo" => 2,
-        b"joint" => 3,
-        _ => 4,
+        "mono" => Ok(SbcChannelMode::Mono),
+        "dual" => Ok(SbcChannelMode::DualChannel),
+        "stereo" => Ok(SbcChannelMode::Stereo),
+        "joint" => Ok(SbcChannelMode::JointStereo),
+        _ => Err(Error::InvalidParameter),
     }
 }
 
-// The number of an allocation's word, or 2.
-fn allocation_number(word: &[u8]) -> u8 {
+fn allocation(word: &str) -> Result<SbcAllocation, Error> {
     match word {
-        b"loudness" => 0,
-        b"snr" => 1,
-        _ => 2,
+        "loudness" => Ok(SbcAllocation::Loudness),
+        "snr" => Ok(SbcAllocation::Snr),
+        _ => Err(Error::InvalidParameter),
     }
 }
 
-// Puts argument i at the front of the space, and answers its length; one that is missing or long is an empty word.
-fn argument(rt: &impl Env, i: usize, space: &mut [u8]) -> usize
-    ensures { result ≤ length space.new }
-{
-    match rt.arg(i, space) {
-        Ok(count) => count,
-        Err(_) => 0,
+// The arguments' parameters: HIGH_QUALITY where there are none, and else those of six words; whether they are accepted shows later.
+pub fn of_arguments(rt: &(impl Env + AllocGlobal)) -> Result<SbcParameters, Stop> {
+    match words(rt)?.as_slice() {
+        [] => Ok(SbcParameters::HIGH_QUALITY),
+        [rate, mode, method, blocks, subbands, bitpool] => Ok(SbcParameters {
+            sample_rate: number(rate.as_str())?,
+            channel_mode: channel_mode(mode.as_str())?,
+            allocation: allocation(method.as_str())?,
+            blocks: number(blocks.as_str())?,
+            subbands: number(subbands.as_str())?,
+            bitpool: number(bitpool.as_str())?,
+        }),
+        _ => Err(Stop::Refused(Error::InvalidParameter)),
     }
-}
-
-fn is_given(rt: &impl Env, i: usize) -> bool {
-    let mut space = [0u8; 16];
-    match rt.arg(i, &mut space) {
-        Err(FillError::NotPresent) => false,
-        Ok(_) | Err(FillError::TooLong) => true,
-    }
-}
-
-fn number_at(rt: &impl Env, i: usize) -> u32 {
-    let mut space = [0u8; 16];
-    let n = argument(rt, i, &mut space);
-    decimal(&space[..n])
-}
-
-fn byte_at(rt: &impl Env, i: usize) -> u8 {
-    let n = number_at(rt, i);
-    if n < 256 {
-        return n as u8;
-    }
-    0
-}
-
-fn mode_at(rt: &impl Env, i: usize) -> u8 {
-    let mut space = [0u8; 16];
-    let n = argument(rt, i, &mut space);
-    mode_number(&space[..n])
-}
-
-fn allocation_at(rt: &impl Env, i: usize) -> u8 {
-    let mut space = [0u8; 16];
-    let n = argument(rt, i, &mut space);
-    allocation_number(&space[..n])
-}
-
-// What six words say; whether it is accepted shows later.
-fn of_words(rt: &impl Env) -> Parsed {
-    let mode = mode_at(rt, 2);
-    let allocation = allocation_at(rt, 3);
-    if mode > 3 {
-        return Parsed::Refused(Error::InvalidParameter);
-    }
-    if allocation > 1 {
-        return Parsed::Refused(Error::InvalidParameter);
-    }
-    Parsed::Parameters(SbcParameters {
-        sample_rate: number_at(rt, 1),
-        channel_mode: SbcChannelMode::from_number(mode),
-        allocation: SbcAllocation::from_number(allocation),
-        blocks: byte_at(rt, 4),
-        subbands: byte_at(rt, 5),
-        bitpool: byte_at(rt, 6),
-    })
-}
-
-// The arguments' parameters: HIGH_QUALITY where there are none, and else those of six words. Argument 0 is the program's name.
-pub fn of_arguments(rt: &impl Env) -> Parsed {
-    if !is_given(rt, 1) {
-        return Parsed::Parameters(SbcParameters::HIGH_QUALITY);
-    }
-    if is_given(rt, 6) && !is_given(rt, 7) {
-        return of_words(rt);
-    }
-    Parsed::Refused(Error::InvalidParameter)
 }

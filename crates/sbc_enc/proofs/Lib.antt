@@ -1,0 +1,2 @@
+-- What the program rests on of an encode call.
+pub mod Fitting
