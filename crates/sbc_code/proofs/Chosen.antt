@@ -28,8 +28,7 @@ use Rattle.sbc_frame.specs.Arrays.{sample_in, entry}
 use Rattle.sbc_factors.specs.Factors.{factors_in}
 use Rattle.sbc_join.specs.Joining.{half_sums, half_differences, join_row, picked_row, picked_samples}
 use Rattle.sbc_frame.proofs.Flagged.{flagged-in}
-use Rattle.sbc_code.specs.declared.Coding.{Coding}
-use Rattle.sbc_code.specs.Coding.{plain_coding, join_flags, joint_coding, coding_of, CodingRows, CodingIn, ChannelsIn}
+use Rattle.sbc_code.specs.Coding.{Coded, plain_coding, join_flags, joint_coding, coding_of, CodingRows, CodingIn, ChannelsIn}
 use Rattle.sbc_frame.proofs.Sizes.{joins-two}
 use Rattle.sbc_frame.proofs.Coding.{none-joined, coded-alone}
 
@@ -70,7 +69,7 @@ digit-small true = lit≤ tt
 digit-small false = lit≤ tt
 
 -- rows of eight: flags of one bit and scale factors of four
-plain_rows : (n : ℕ) (l r : List ℤ) → CodingRows (replicate 8 0) (factors_in n l) (factors_in n r)
+pub plain_rows : (n : ℕ) (l r : List ℤ) → CodingRows (replicate 8 0) (factors_in n l) (factors_in n r)
 unfolding factors_in
 plain_rows n l r = (
   length-build 8 _,
@@ -86,6 +85,16 @@ plain_rows n l r = (
     go : (s : ℕ) (t : Bool) → ltb s 8 ≡ t → get_or zeros s 0 ≤ 1
     go s true e = rw (get_or-replicate {A = ℕ} 8 s 0 0 (ltb-true s 8 e)) (lit≤ tt)
     go s false e = rw (get_or-eq_default zeros 0 (ltb-false s 8 e)) (lit≤ tt)
+
+-- so in a row of flags, and in a row that is picked
+pub flags-low : (S : ℕ) (a b c d : List ℕ) {row : List ℕ} → row ≡ join_row S a b c d → (s : ℕ) → entry row s ≤ 1
+unfolding join_row
+flags-low S a b c d e s =
+    subst (λ (row : List ℕ). entry row s ≤ 1) (sym e) (build-all (λ (k : ℕ). k ≤ 1) 8 _ s 0 (λ j. digit-small _) (lit≤ tt))
+
+pub picked-low : (flags plain joined : List ℕ) {row : List ℕ} → row ≡ picked_row flags plain joined → ((s : ℕ) → entry plain s ≤ 15)
+    → ((s : ℕ) → entry joined s ≤ 15) → (s : ℕ) → entry row s ≤ 15
+picked-low flags plain joined e hp hj s = subst (λ (row : List ℕ). entry row s ≤ 15) (sym e) (picked-small flags plain joined hp hj s)
 
 joint-rows : (n S : ℕ) (l r a b : List ℤ)
     → let flags = join_row S (factors_in n l) (factors_in n r) (factors_in n a) (factors_in n b) in
@@ -251,7 +260,7 @@ pub coding-rows : (p : SbcParameters) (l r : List ℤ)
     → let k = coding_of p l r in CodingRows k.flags k.left_factors k.right_factors
 unfolding coding_of plain_coding joint_coding
 coding-rows p l r =
-    by-test (λ (k : Coding). CodingRows k.flags k.left_factors k.right_factors) (eqb (join_count p) 0) (plain_coding p l r) (joint_coding p l r)
+    by-test (λ (k : Coded). CodingRows k.flags k.left_factors k.right_factors) (eqb (join_count p) 0) (plain_coding p l r) (joint_coding p l r)
     (λ _. plain_rows p.blocks l r) (λ _. joint-rows p.blocks p.subbands l r (half_sums l r) (half_differences l r))
 
 -- and what `coded_at` says
@@ -259,7 +268,7 @@ pub coding-in : (p : SbcParameters) → accepted p ≡ true → (samples : ℕ �
     → let k = coding_of p l r in CodingIn p samples k.flags k.left_factors k.right_factors k.left k.right
 unfolding coding_of plain_coding
 coding-in p a samples l r given =
-    by-test (λ (k : Coding). CodingIn p samples k.flags k.left_factors k.right_factors k.left k.right) (eqb (join_count p) 0)
+    by-test (λ (k : Coded). CodingIn p samples k.flags k.left_factors k.right_factors k.left k.right) (eqb (join_count p) 0)
     (plain_coding p l r) (joint_coding p l r) (λ e. plain-coding p a samples l r given (eqb-true (join_count p) 0 e))
     (λ e. joint-coding p a samples l r given (let ne = eqb-false (join_count p) 0 e in omega arith))
 
@@ -273,7 +282,7 @@ unfolding coding_of
 coding-joint p l r ne = sym (rw (ne_eqb (join_count p) 0 ne))
 
 -- a coding from its parts
-abbrev coding_from : List ℕ → List ℕ → List ℕ → List ℤ → List ℤ → Coding
+abbrev coding_from : List ℕ → List ℕ → List ℕ → List ℤ → List ℤ → Coded
 coding_from flags left-factors right-factors left right =
     record { flags = flags; left_factors = left-factors; right_factors = right-factors; left = left; right = right }
 

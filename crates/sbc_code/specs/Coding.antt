@@ -10,10 +10,23 @@ use Rattle.sbc_frame.specs.Encoding.{factor_of, is_joined, coded_at}
 use Rattle.sbc_frame.specs.Arrays.{sample_in, entry, SamplesIn}
 use Rattle.sbc_factors.specs.Factors.{factors_in}
 use Rattle.sbc_join.specs.Joining.{half_sums, half_differences, join_row, picked_row, picked_samples}
-use Rattle.sbc_code.specs.declared.Coding.{Coding}
+use Rattle.sbc_frame.specs.declared.CodedFrame.{CodedFrame}
+
+-- what is coded: join flags, scale factors and samples
+pub record Coded : Type 0 where
+  pub flags : List ℕ
+  pub left_factors : List ℕ
+  pub right_factors : List ℕ
+  pub left : List ℤ
+  pub right : List ℤ
+
+-- what a coding holds
+abbrev pub coded : CodedFrame → Coded
+coded k =
+    record { flags = k.flags; left_factors = k.factors.left; right_factors = k.factors.right; left = k.left; right = k.right }
 
 -- the channels as they are
-unfoldable pub plain_coding : SbcParameters → List ℤ → List ℤ → Coding
+unfoldable pub plain_coding : SbcParameters → List ℤ → List ℤ → Coded
 plain_coding p left right =
     record {
       flags = replicate 8 0;
@@ -30,7 +43,7 @@ join_flags p left right =
     (factors_in p.blocks (half_differences left right))
 
 -- sums in place of the left channel and differences in place of the right where a flag is set
-unfoldable pub joint_coding : SbcParameters → List ℤ → List ℤ → Coding
+unfoldable pub joint_coding : SbcParameters → List ℤ → List ℤ → Coded
 joint_coding p left right =
     let flags = join_flags p left right in
     record {
@@ -42,7 +55,7 @@ joint_coding p left right =
     }
 
 -- what is coded of a frame whose channels have these samples
-unfoldable pub coding_of : SbcParameters → List ℤ → List ℤ → Coding
+unfoldable pub coding_of : SbcParameters → List ℤ → List ℤ → Coded
 coding_of p left right = if eqb (join_count p) 0 then plain_coding p left right else joint_coding p left right
 
 -- rows of eight: flags of one bit and scale factors of four

@@ -1,75 +1,81 @@
 // What is coded of a frame, of its channels' subband samples: join flags, scale factors and samples.
 #![tactic(auto)]
 
-ghost use Rattle.std.specs.Prelude.{◌≡◌, true, length};
+ghost use Rattle.std.specs.Prelude.{◌≡◌, ◌≤◌, true};
 ghost use Rattle.sbc_parameters.specs.Parameters.{accepted};
-ghost use Rattle.sbc_code.specs.Coding.{plain_coding, joint_coding, coding_of};
+ghost use Rattle.sbc_factors.specs.Factors.{factors_in};
+ghost use Rattle.sbc_join.specs.Joining.{picked_row};
+ghost use Rattle.sbc_code.specs.Coding.{coded, plain_coding, joint_coding, coding_of};
 
 use sbc_factors::factors_of;
+use sbc_frame::{CodedFrame, Factors};
 use sbc_join::{half_differences, half_sums, join_flags, pick_row, pick_samples};
 use sbc_parameters::SbcParameters;
 
-// What is coded of a frame: join flags, scale factors and samples; rows of eight, and eight places a block.
-#[derive(Clone, Copy)]
-pub struct Coding {
-    pub flags: [u8; 8],
-    pub left_factors: [u8; 8],
-    pub right_factors: [u8; 8],
-    pub left: [i32; 128],
-    pub right: [i32; 128],
+// The scale factors of two channels with these samples.
+fn both_factors(left: &[i32; 128], right: &[i32; 128], blocks: usize) -> Factors
+    requires { blocks ≤ 16 }
+    ensures left { result.left ≡ factors_in blocks left.now }
+    ensures right { result.right ≡ factors_in blocks right.now }
+{
+    Factors {
+        left: factors_of(left, blocks),
+        right: factors_of(right, blocks),
+    }
+}
+
+// The joined scale factors where a flag is set.
+fn pick_factors(flags: &[u8; 8], plain: &Factors, joined: &Factors) -> Factors
+    ensures left { result.left ≡ picked_row flags.now plain.now.left joined.now.left }
+    ensures right { result.right ≡ picked_row flags.now plain.now.right joined.now.right }
+{
+    Factors {
+        left: pick_row(flags, &plain.left, &joined.left),
+        right: pick_row(flags, &plain.right, &joined.right),
+    }
 }
 
 // The channels as they are.
-fn code_plain(parameters: SbcParameters, left: &[i32; 128], right: &[i32; 128]) -> Coding
+fn code_plain(parameters: SbcParameters, left: &[i32; 128], right: &[i32; 128]) -> CodedFrame
     requires { accepted parameters ≡ true }
-    ensures { result ≡ plain_coding parameters left.now right.now }
+    ensures { coded result ≡ plain_coding parameters left.now right.now }
 {
     let blocks = parameters.blocks as usize;
-    Coding {
-        flags: [0u8; 8],
-        left_factors: factors_of(left, blocks),
-        right_factors: factors_of(right, blocks),
+    CodedFrame {
+        flags: [0; 8],
+        factors: both_factors(left, right, blocks),
         left: *left,
         right: *right,
     }
 }
 
 // Sum and difference in place of the channels where that takes smaller scale factors.
-fn code_joint(parameters: SbcParameters, left: &[i32; 128], right: &[i32; 128]) -> Coding
-    requires { (accepted parameters ≡ true) × (length left.now ≡ 128) × (length right.now ≡ 128) }
-    ensures { result ≡ joint_coding parameters left.now right.now }
+fn code_joint(parameters: SbcParameters, left: &[i32; 128], right: &[i32; 128]) -> CodedFrame
+    requires { accepted parameters ≡ true }
+    ensures { coded result ≡ joint_coding parameters left.now right.now }
 {
     let blocks = parameters.blocks as usize;
     let sums = half_sums(left, right);
     let differences = half_differences(left, right);
-    let plain_left = factors_of(left, blocks);
-    let plain_right = factors_of(right, blocks);
-    let joined_left = factors_of(&sums, blocks);
-    let joined_right = factors_of(&differences, blocks);
-    let flags = join_flags(
-        &plain_left,
-        &plain_right,
-        &joined_left,
-        &joined_right,
-        parameters.subbands as usize,
-    );
+    let plain = both_factors(left, right, blocks);
+    let joined = both_factors(&sums, &differences, blocks);
+    let flags = join_flags(&plain, &joined, parameters.subbands as usize);
     let mut coded_left = *left;
     let mut coded_right = *right;
     pick_samples(&mut coded_left, &sums, &flags, blocks);
     pick_samples(&mut coded_right, &differences, &flags, blocks);
-    Coding {
+    CodedFrame {
         flags,
-        left_factors: pick_row(&flags, &plain_left, &joined_left),
-        right_factors: pick_row(&flags, &plain_right, &joined_right),
+        factors: pick_factors(&flags, &plain, &joined),
         left: coded_left,
         right: coded_right,
     }
 }
 
 // What is coded of a frame whose channels have these samples.
-pub fn code(parameters: SbcParameters, left: &[i32; 128], right: &[i32; 128]) -> Coding
-    requires { (accepted parameters ≡ true) × (length left.now ≡ 128) × (length right.now ≡ 128) }
-    ensures { result ≡ coding_of parameters left.now right.now }
+pub fn code(parameters: SbcParameters, left: &[i32; 128], right: &[i32; 128]) -> CodedFrame
+    requires { accepted parameters ≡ true }
+    ensures { coded result ≡ coding_of parameters left.now right.now }
 {
     if parameters.join_count() == 0 {
         return code_plain(parameters, left, right);

@@ -2,7 +2,7 @@
 -- the code are the bits of the body.
 -- Assumes nothing.
 use Prim.Native.Nat.{ℕ, zero, suc, ◌-◌, ◌*◌, ◌≤◌, ◌<◌}
-use mathlib.Core.Path.{◌≡◌, refl, sym, ap, ap₂, subst, ◌∙◌}
+use mathlib.Core.Path.{◌≡◌, refl, sym, ap, ap₂, ◌∙◌}
 use mathlib.Core.Logic.{◌⊎◌, inl, inr}
 use mathlib.Core.Bool.{Bool, true, false}
 use mathlib.Core.List.{List, [], ◌∷◌, ◌++◌, append_assoc, append-nil}
@@ -29,8 +29,8 @@ use Rattle.sbc_frame.specs.Layout.{flag_bits, channel_factor_bits, factor_bits, 
 use Rattle.sbc_frame.specs.Channels.{pcm_in, channel_pcm, analyze_blocks, analysis_after}
 use Rattle.sbc_frame.specs.Encoding.{sample_at, channel_samples, factor_of, is_joined, coded_at, coded_factors, coded_values, coded_fields, analysis_histories}
 use Rattle.sbc_frame.specs.Arrays.{entry, sample_in, samples_array}
-use Rattle.sbc_code.specs.declared.Coding.{Coding}
-use Rattle.sbc_code.specs.Coding.{coding_of, ChannelsIn, CodingRows, CodingIn}
+use Rattle.sbc_frame.specs.declared.CodedFrame.{CodedFrame}
+use Rattle.sbc_code.specs.Coding.{Coded, coded, coding_of, ChannelsIn, CodingIn}
 use Rattle.sbc_code.proofs.Chosen.{coding-rows, coding-in}
 use Rattle.sbc_write.specs.Writing.{row_bits, block_bits_of, value_bits_of}
 use Rattle.sbc_write_frame.specs.Framing.{coding_bits, coding_bytes}
@@ -226,16 +226,12 @@ module _ (p : SbcParameters) (a : accepted p ≡ true) (samples : ℕ → List (
       header p ++ (checksum (header p ++ (0 ∷ rest)) (side_bits p) ∷ rest)) bits-packed
 
 -- ---- what is coded of two channels' samples
--- rows of eight, with flags of one bit and scale factors of four
-pub rows-kept : (p : SbcParameters) (l r : List ℤ) {k : Coding} → k ≡ coding_of p l r → CodingRows k.flags k.left_factors k.right_factors
-rows-kept p l r e = subst (λ (k : Coding). CodingRows k.flags k.left_factors k.right_factors) (sym e) (coding-rows p l r)
-
 -- its bytes are the frame
 pub coding-packed : (p : SbcParameters) → accepted p ≡ true → (samples : ℕ → List (List ℤ)) (l r : List ℤ) → ChannelsIn p samples l r
-    → (k : Coding) → k ≡ coding_of p l r
-    → coding_bytes p k.flags k.left_factors k.right_factors k.left k.right ≡ pack p (coded_fields p samples)
+    → (k : CodedFrame) → coded k ≡ coding_of p l r
+    → coding_bytes p k.flags k.factors.left k.factors.right k.left k.right ≡ pack p (coded_fields p samples)
 coding-packed p a samples l r given k e =
-    ap (λ (k : Coding). coding_bytes p k.flags k.left_factors k.right_factors k.left k.right) e
+    ap (λ (k : Coded). coding_bytes p k.flags k.left_factors k.right_factors k.left k.right) e
     ∙ (let rows = coding-rows p l r in frame-packed p a samples _ _ _ _ _ (coding-in p a samples l r given) rows.0 rows.1)
 
 -- ---- a frame from PCM: the two channels' histories and samples, where C is the number of channels

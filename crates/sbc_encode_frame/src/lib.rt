@@ -35,18 +35,5 @@ pub fn encode_frame(
     let left = analyze_channel(left_history, input, blocks, subbands, first);
     let right = analyze_second(right_history, input, blocks, subbands, channels);
     let coding = code(parameters, &left, &right);
-    let flags = coding.flags;
-    let left_factors = coding.left_factors;
-    let right_factors = coding.right_factors;
-    let coded_left = coding.left;
-    let coded_right = coding.right;
-    write_frame(
-        parameters,
-        frame,
-        &flags,
-        &left_factors,
-        &right_factors,
-        &coded_left,
-        &coded_right,
-    );
+    write_frame(parameters, frame, &coding);
 }

@@ -1,6 +1,6 @@
 -- An array that is made by calls of one function at each index, which stays as it is and gives what f says of its index.
 -- Assumes nothing.
-use Rattle.std.proofs.Common.{ℕ, zero, suc, ◌+◌, ◌≡◌, ◌<◌, ◌≤◌, List, sym, subst, slice_index_or, arith, ◌∙◌, ap}
+use Rattle.std.proofs.Common.{ℕ, zero, suc, ◌+◌, ◌≡◌, ◌<◌, List, sym, subst, slice_index_or, arith, ◌∙◌}
 use Rattle.std.specs.Array.{IsFromFnResult, IsFromFnResultFrom}
 use native.Mathlib.Nat.{add-zero}
 use denote.Param.Members.{Mut, Called}

@@ -6,6 +6,7 @@ ghost use Rattle.laws.specs.Integers.{floor_div};
 ghost use Rattle.sbc_frame.specs.Arrays.{sample_in, entry, with_subband};
 ghost use Rattle.sbc_join.specs.Joining.{half_sums, half_differences, join_row, picked_row, picked_samples};
 
+use sbc_frame::Factors;
 use std::array;
 
 // Half the one and half the other, added.
@@ -37,18 +38,11 @@ pub fn half_differences(left: &[i32; 128], right: &[i32; 128]) -> [i32; 128]
 }
 
 // 1 for each subband but the last whose new scale factors add to less than the old.
-pub fn join_flags(
-    left: &[u8; 8],
-    right: &[u8; 8],
-    sums: &[u8; 8],
-    differences: &[u8; 8],
-    subbands: usize,
-) -> [u8; 8]
-    requires { (0 < subbands) × (subbands ≤ 8) × ((s : ℕ) → entry left.now s ≤ 15) × ((s : ℕ) → entry right.now s ≤ 15) × ((s : ℕ) → entry sums.now s ≤ 15) × ((s : ℕ) → entry differences.now s ≤ 15) }
-    ensures { result ≡ join_row subbands left.now right.now sums.now differences.now }
+pub fn join_flags(plain: &Factors, joined: &Factors, subbands: usize) -> [u8; 8]
+    ensures { result ≡ join_row subbands plain.now.left plain.now.right joined.now.left joined.now.right }
 {
     array::from_fn(move |s| u8::from(
-        s + 1 < subbands && sums[s] + differences[s] < left[s] + right[s],
+        s + 1 < subbands && joined.left[s] + joined.right[s] < plain.left[s] + plain.right[s],
     ))
 }
 

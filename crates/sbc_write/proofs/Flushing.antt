@@ -16,8 +16,8 @@ use Rattle.laws.specs.Lists.{collect}
 use Rattle.laws.specs.Bits.{odd, bits_of, bits_of_bytes, bytes_of}
 use Rattle.laws.proofs.Bits.{length-bits_of, length-bits_of_bytes, bits-low, bits-append, bits-of-append, bytes_bits, Bytes}
 use Rattle.sbc_frame.specs.Layout.{filled}
-use Rattle.sbc_write.specs.declared.Writer.{Writer}
-use Rattle.sbc_write.specs.Writing.{bits_in}
+use Rattle.sbc_write.specs.declared.writer.Writer.{Writer}
+use Rattle.sbc_write.specs.Writing.{bits_behind, bits_in}
 
 -- ---- numbers
 -- a number of n bits behind one of m bits has m + n
@@ -68,18 +68,18 @@ bits-stored bytes at x h =
 module _ (bytes : List ℕ) (at held bits : ℕ) where
   -- a field taken up
   pub taken-up : (value count : ℕ) → value < 2 ^ count
-      → bits_in bytes (record { at = at; held = held + count; bits = bits * 2 ^ count + value })
-      ≡ bits_in bytes (record { at = at; held = held; bits = bits }) ++ bits_of count value
-  unfolding bits_in
+      → bits_behind bytes at (held + count) (bits * 2 ^ count + value)
+      ≡ bits_behind bytes at held bits ++ bits_of count value
+  unfolding bits_behind
   taken-up value count h =
       ap (λ (l : List Bool). bits_of_bytes (take at bytes) ++ l) (bits-joined held count bits value h)
       ∙ sym (append_assoc (bits_of_bytes (take at bytes)) (bits_of held bits) (bits_of count value))
 
   -- a byte flushed
   pub flushed : at < length bytes → 8 ≤ held
-      → bits_in (set bytes at (bits / 2 ^ (held - 8))) (record { at = at + 1; held = held - 8; bits = bits % 2 ^ (held - 8) })
-      ≡ bits_in bytes (record { at = at; held = held; bits = bits })
-  unfolding bits_in
+      → bits_behind (set bytes at (bits / 2 ^ (held - 8))) (at + 1) (held - 8) (bits % 2 ^ (held - 8))
+      ≡ bits_behind bytes at held bits
+  unfolding bits_behind
   flushed h k =
       let n : ℕ = held - 8 in
       let e : 8 + n ≡ held = omega arith in
@@ -89,8 +89,8 @@ module _ (bytes : List ℕ) (at held bits : ℕ) where
       ∙ ap (λ (l : List Bool). before ++ l) (sym (bits-append 8 n bits) ∙ ap (λ (j : ℕ). bits_of j bits) e)
 
   -- how many bits are written
-  length-in : at ≤ length bytes → length (bits_in bytes (record { at = at; held = held; bits = bits })) ≡ 8 * at + held
-  unfolding bits_in
+  length-in : at ≤ length bytes → length (bits_behind bytes at held bits) ≡ 8 * at + held
+  unfolding bits_behind
   length-in h =
       length-append (bits_of_bytes (take at bytes)) (bits_of held bits)
       ∙ omega (arith, length-bits_of_bytes (take at bytes), length-take-le at bytes h, length-bits_of held bits)
@@ -103,8 +103,8 @@ filled-by bytes bits h e = sym (bytes_bits bytes h) ∙ ap (bytes_of (length byt
 
 module _ (bytes : List ℕ) (small : Bytes bytes) (at bits : ℕ) where
   -- with no bits held all bytes are written
-  pub finished-whole : at ≡ length bytes → bytes ≡ filled (length bytes) (bits_in bytes (record { at = at; held = 0; bits = bits }))
-  unfolding bits_in bits_of
+  pub finished-whole : at ≡ length bytes → bytes ≡ filled (length bytes) (bits_behind bytes at 0 bits)
+  unfolding bits_behind bits_of
   finished-whole e =
       let before : List Bool = bits_of_bytes (take at bytes) in
       let z : 8 * length bytes - length (before ++ []) ≡ 0 = omega (arith, length-in bytes at 0 bits (omega arith)) in
@@ -114,7 +114,7 @@ module _ (bytes : List ℕ) (small : Bytes bytes) (at bits : ℕ) where
 -- with zeros behind the bits held the last byte is full
 module _ (bytes out : List ℕ) (small : Bytes out) (same : length out ≡ length bytes) (w r : Writer) where
   all-out : r.held ≡ 0 → r.at ≡ length out → bits_of_bytes out ≡ bits_in out r
-  unfolding bits_in bits_of
+  unfolding bits_behind bits_of
   all-out none e =
       sym (append-nil (bits_of_bytes out)) ∙ ap₂ {C = List Bool} ◌++◌ (ap bits_of_bytes (sym (take_all r.at out (omega arith)))) (sym (rw none))
 

@@ -1,20 +1,24 @@
 -- What the code has written of a frame's body, for the contracts of its inner functions alone: its bits, one field after the other. No call of a user's
 -- cites this.
 -- From document 01, "Parameters" and "Quantizing".
-use Rattle.std.specs.Prelude.{ℕ, ◌+◌, ◌*◌, ◌<◌, ◌^◌, ◌≤◌, Bool, List, ◌++◌, take, ℤ}
+use Rattle.std.specs.Prelude.{ℕ, ◌+◌, ◌*◌, Bool, List, ◌++◌, take, ℤ}
 use Rattle.laws.specs.Lists.{collect}
 use Rattle.laws.specs.Bits.{bits_of, bits_of_bytes}
 use Rattle.sbc_quantizer.specs.Quantizing.{quantize}
 use Rattle.sbc_frame.specs.Arrays.{sample_in, entry}
-use Rattle.sbc_write.specs.declared.Writer.{Writer}
+use Rattle.sbc_write.specs.declared.writer.Writer.{Writer}
+
+-- what is written into bytes: the first whole bytes, and a number of bits behind them
+unfoldable pub bits_behind : List ℕ → ℕ → ℕ → ℕ → List Bool
+bits_behind bytes at held bits = bits_of_bytes (take at bytes) ++ bits_of held bits
 
 -- what a writer has written into bytes, from the first on: whole bytes, and the bits that it still holds
-unfoldable pub bits_in : List ℕ → Writer → List Bool
-bits_in bytes w = bits_of_bytes (take w.at bytes) ++ bits_of w.held w.bits
+abbrev pub bits_in : List ℕ → Writer → List Bool
+bits_in bytes w = bits_behind bytes w.at w.held w.bits
 
--- a writer that can go on writing into so many bytes
-abbrev pub Ready : ℕ → Writer → Type 0
-Ready size w = (w.held < 8) × (w.bits < 2 ^ w.held) × (8 * w.at + w.held ≤ 8 * size)
+-- how many bits that are
+abbrev pub count_in : Writer → ℕ
+count_in w = 8 * w.at + w.held
 
 -- `count` numbers of a row, of so many bits each
 unfoldable pub row_bits : List ℕ → ℕ → ℕ → List Bool

@@ -8,7 +8,7 @@ use lib.ListN.{length, get_or, take, set, length-set}
 use borrow.Rule.Slice.PartMut.{put_mid}
 use Rattle.laws.specs.Bits.{bits_of, bits_of_bytes}
 use Rattle.laws.proofs.Parts.{put-tail}
-use Rattle.sbc_write.specs.Writing.{bits_in}
+use Rattle.sbc_write.specs.Writing.{bits_behind}
 
 -- ---- a frame as it is written: the bytes of the header first
 abbrev pub headed : List ℕ → List ℕ → List ℕ
@@ -38,6 +38,6 @@ bodied h frame rest e l = put-tail 4 (headed h frame) rest (omega (arith, length
 
 -- ---- the bits of its body
 -- a writer begins with none
-pub no_bits : (bytes : List ℕ) → bits_in bytes (record { at = 0; held = 0; bits = 0 }) ≡ []
-unfolding bits_in bits_of bits_of_bytes
+pub no_bits : (bytes : List ℕ) → bits_behind bytes 0 0 0 ≡ []
+unfolding bits_behind bits_of bits_of_bytes
 no_bits bytes = refl

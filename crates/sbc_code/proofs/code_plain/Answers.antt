@@ -3,21 +3,22 @@
 use lib.ListN.{replicate}
 use Rattle.sbc_parameters.proofs.Accepted.{ranges}
 use Rattle.sbc_code.specs.Coding.{plain_coding}
+use Rattle.sbc_code.proofs.Chosen.{plain_rows}
 use Rattle.sbc_code.proofs.code_plain.Goals as goal
 
-pub factors_of-requires : goal.factors_of-requires
-factors_of-requires c = (ranges _ c.requires).blocks-high
+pub both_factors-requires : goal.both_factors-requires
+both_factors-requires c = (ranges _ c.requires).blocks-high
 
-pub factors_of-requires-2 : goal.factors_of-requires-2
-factors_of-requires-2 c = (ranges _ c.requires).blocks-high
+pub invariant_of-result : goal.invariant_of-result
+invariant_of-result c = record { flags_within = (plain_rows c.args.parameters.blocks c.args.left.now c.args.right.now).2 }
 
 pub returns : goal.returns
 unfolding plain_coding
 returns c =
     λ i. record {
       flags = replicate 8 0;
-      left_factors = c.factors_of.ensures i;
-      right_factors = c.factors_of-2.ensures i;
+      left_factors = c.both_factors.ensures.left i;
+      right_factors = c.both_factors.ensures.right i;
       left = c.args.left.now;
       right = c.args.right.now;
     }

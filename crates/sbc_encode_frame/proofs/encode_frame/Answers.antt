@@ -1,14 +1,12 @@
 -- `sbc_encode_frame::encode_frame` meets its contract: what is coded of the samples (`CodingIn`) is written as the frame's bytes.
 -- Assumes nothing.
-use mathlib.Core.Path.{ap, ◌∙◌}
+use mathlib.Core.Path.{◌∙◌}
 use mathlib.Core.List.{[], ◌∷◌}
 use native.Mathlib.Omega.{arith}
-use lib.ListN.{length}
 use Rattle.sbc_parameters.proofs.Accepted.{channels-range, ranges}
 use Rattle.sbc_frame.specs.Encoding.{channel_samples, encode_fields}
-use Rattle.sbc_frame.proofs.Columns.{length-array}
 use Rattle.sbc_frame.proofs.Blocks.{asked}
-use Rattle.sbc_encode_frame.proofs.Packed.{rows-kept, coding-packed, histories-analyzed, channels-analyzed}
+use Rattle.sbc_encode_frame.proofs.Packed.{coding-packed, histories-analyzed, channels-analyzed}
 use Rattle.sbc_encode_frame.proofs.encode_frame.Goals as goal
 
 pub analyze_channel-left-requires : goal.analyze_channel-left-requires
@@ -20,12 +18,10 @@ pub analyze_second-right-requires : goal.analyze_second-right-requires
 analyze_second-right-requires c = asked c.args.parameters 0 _ _ c.requires.0 c.channels-channels.ensures (omega (arith, c.channels-channels.ensures, (channels-range c.args.parameters).0)) c.requires.1
 
 pub code-coding-requires : goal.code-coding-requires
-code-coding-requires c = (c.requires.0, ap length c.analyze_channel-left.ensures.samples ∙ length-array _ _, c.analyze_second-right.ensures.long)
+code-coding-requires c = c.requires.0
 
 pub write_frame-requires : goal.write_frame-requires
-write_frame-requires c =
-    let k = rows-kept _ _ _ c.code-coding.ensures in
-    (c.requires.0, c.requires.2, k.0, k.1, k.2, k.3, k.4)
+write_frame-requires c = (c.requires.0, c.requires.2)
 
 pub returns : goal.returns
 unfolding encode_fields

@@ -1,7 +1,6 @@
 -- `factors_of` meets its contract.
 -- Assumes nothing.
-use Rattle.std.proofs.Common.{rules, ap, ◌∙◌}
-use Rattle.sbc_quantizer.specs.Quantizing.{scale_factor}
+use Rattle.std.proofs.Common.{rules}
 use Rattle.sbc_factors.specs.Factors.{factors_in}
 use Rattle.sbc_frame.proofs.Made.{made}
 use Rattle.sbc_factors.proofs.Factors.{factor-of}

@@ -19,7 +19,7 @@ joined held bits value count h b v k =
 pub loop-held-init : goal.loop-held-init
 loop-held-init c =
     let w = c.args.writer in
-    let up = joined w.held w.bits c.args.value c.args.count c.requires.2.0 c.requires.2.1 c.requires.1 c.requires.0 in
+    let up = joined w.held w.bits c.args.value c.args.count w.held_within w.bits_within c.requires.low c.requires.short in
     (omega arith, rw up.0 up.1, refl, refl, refl, refl)
 
 pub overflow_cast-bytes-in-loop-held : goal.overflow_cast-bytes-in-loop-held
@@ -42,5 +42,5 @@ loop-held-preserved c =
 pub returns-clause-written : goal.returns-clause-written
 returns-clause-written c =
     let w = c.args.writer in
-    let up = joined w.held w.bits c.args.value c.args.count c.requires.2.0 c.requires.2.1 c.requires.1 c.requires.0 in
-    c.loop-held.invariant.4 ∙ rw up.0 (taken-up c.args.bytes.now w.at w.held w.bits c.args.value c.args.count c.requires.1)
+    let up = joined w.held w.bits c.args.value c.args.count w.held_within w.bits_within c.requires.low c.requires.short in
+    c.loop-held.invariant.4 ∙ rw up.0 (taken-up c.args.bytes.now w.at w.held w.bits c.args.value c.args.count c.requires.low)

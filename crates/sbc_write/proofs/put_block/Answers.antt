@@ -31,7 +31,6 @@ unfolding collect total
 loop-s-init c = (
   omega arith,
   refl,
-  c.requires.3,
   omega arith,
   sym (append-nil (bits_in c.args.bytes.now c.args.writer)),
   refl,
@@ -39,25 +38,26 @@ loop-s-init c = (
 
 pub put-next-requires : goal.put-next-requires
 put-next-requires c =
-    let w : List ℕ = c.args.widths.now in (
-      c.requires.1 c.loop-s.s,
-      subst (λ (q : ℕ). q < 2 ^ entry w c.loop-s.s) (sym c.quantize-value.ensures)
-          (quantize-lt _ (entry c.args.factors.now c.loop-s.s) (entry w c.loop-s.s)),
-      c.loop-s.invariant.2,
-      omega (arith, total-below 8 (entry w) c.loop-s.s (omega arith)),
-    )
+    let q = c.args.quantization.now in
+    record {
+      short = q.widths_within c.loop-s.s;
+      low =
+          subst (λ (v : ℕ). v < 2 ^ entry q.widths c.loop-s.s) (sym c.quantize-value.ensures)
+          (quantize-lt _ (entry q.factors c.loop-s.s) (entry q.widths c.loop-s.s));
+      room = omega (arith, total-below 8 (entry q.widths) c.loop-s.s (omega arith));
+    }
 
 pub loop-s-preserved : goal.loop-s-preserved
 loop-s-preserved c =
     let v = c.loop-s.invariant in
     let s : ℕ = c.loop-s.s in
-    let width : ℕ = entry c.args.widths.now s in
-    let factor : ℕ = entry c.args.factors.now s in
+    let width : ℕ = entry c.args.quantization.now.widths s in
+    let factor : ℕ = entry c.args.quantization.now.factors s in
     let x : ℤ = sample_in c.args.samples.now c.args.block s in
-    let f : ℕ → List Bool = value c.args.samples.now c.args.widths.now c.args.factors.now c.args.block in
+    let f : ℕ → List Bool = value c.args.samples.now c.args.quantization.now.widths c.args.quantization.now.factors c.args.block in
     let mid : List Bool = bits_in c.loop-s.bytes c.loop-s.next in
-    let more = total-next s (entry c.args.widths.now) in
-    let step = one_more s f (bits_in c.args.bytes.now c.args.writer) mid v.4 in
+    let more = total-next s (entry c.args.quantization.now.widths) in
+    let step = one_more s f (bits_in c.args.bytes.now c.args.writer) mid v.3 in
     elim c.if-width-ne0.branch [
       | then-width-ne0 w ↦
           let put = w.put-next.ensures in
@@ -67,22 +67,20 @@ loop-s-preserved c =
           rw (w.bytes-is, w.next-is) (
             omega arith,
             w.put-next.auto.bytes ∙ v.1,
-            put.ready.0,
-            omega (arith, more, put.ready.1, v.3),
+            omega (arith, more, put.counted, v.2),
             step _ (put.written ∙ ap (λ (q : ℕ). mid ++ bits_of width q) same),
             behind_more c.loop-s.next.at w.put-next.result.at c.args.bytes.now c.loop-s.bytes _
-                (omega (arith, put.ready.0, put.ready.1, v.2)) v.5 put.ready.2,
+                (omega (arith, put.counted, w.put-next.result.held_within)) v.4 put.behind,
           )
       | else-width-ne0 w ↦
           let none : width ≡ 0 = omega (arith, w.if-width-ne0.false) in
           rw (w.bytes-is, w.next-is) (
             omega arith,
             v.1,
-            v.2,
-            omega (arith, more, v.3),
+            omega (arith, more, v.2),
             step _ (sym (append-nil mid)
-                ∙ ap (λ (y : List Bool). mid ++ y) (no_value c.args.samples.now c.args.widths.now c.args.factors.now c.args.block s none)),
-            v.5,
+                ∙ ap (λ (y : List Bool). mid ++ y) (no_value c.args.samples.now c.args.quantization.now.widths c.args.quantization.now.factors c.args.block s none)),
+            v.4,
           )
     ]
 
@@ -92,5 +90,5 @@ returns-clause-written c =
     let e : c.loop-s.s ≡ 8 = omega arith in
     subst
     (λ (n : ℕ). bits_in c.loop-s.bytes c.loop-s.next
-    ≡ bits_in c.args.bytes.now c.args.writer ++ collect n (value c.args.samples.now c.args.widths.now c.args.factors.now c.args.block))
-    e c.loop-s.invariant.4
+    ≡ bits_in c.args.bytes.now c.args.writer ++ collect n (value c.args.samples.now c.args.quantization.now.widths c.args.quantization.now.factors c.args.block))
+    e c.loop-s.invariant.3

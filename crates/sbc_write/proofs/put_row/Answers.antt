@@ -16,7 +16,6 @@ unfolding row_bits collect
 loop-s-init c = (
   omega arith,
   refl,
-  c.requires.3,
   omega (arith, zero-mul c.args.width),
   sym (append-nil (bits_in c.args.bytes.now c.args.writer)),
   refl,
@@ -29,10 +28,9 @@ loop-s-preserved c =
     let put = c.put-next.ensures in (
       omega arith,
       c.put-next.auto.bytes ∙ v.1,
-      put.ready.0,
-      omega (arith, put.ready.1, v.3, add-mul c.loop-s.s 1 c.args.width),
+      omega (arith, put.counted, v.2, add-mul c.loop-s.s 1 c.args.width),
       one_more c.loop-s.s (λ s. bits_of c.args.width (entry c.args.row.now s)) (bits_in c.args.bytes.now c.args.writer)
-          (bits_in c.loop-s.bytes c.loop-s.next) v.4 _ put.written,
-      behind_more c.loop-s.next.at c.put-next.result.at c.args.bytes.now c.loop-s.bytes _ (omega (arith, put.ready.0, put.ready.1, v.2)) v.5
-          put.ready.2,
+          (bits_in c.loop-s.bytes c.loop-s.next) v.3 _ put.written,
+      behind_more c.loop-s.next.at c.put-next.result.at c.args.bytes.now c.loop-s.bytes _ (omega (arith, put.counted, c.put-next.result.held_within)) v.4
+          put.behind,
     )

@@ -4,13 +4,13 @@ use Prim.Native.Nat.{◌+◌, ◌-◌, ◌*◌, ◌≤◌}
 use mathlib.Core.Path.{◌≡◌}
 use mathlib.Core.List.{◌++◌}
 use lib.ListN.{length, drop}
-use Rattle.sbc_write.specs.Writing.{bits_in, Ready, row_bits}
+use Rattle.sbc_write.specs.Writing.{bits_in, count_in, row_bits}
 use Rattle.sbc_write.proofs.put_row.Given as goal
 
 abbrev pub invariant-loop-s : goal.invariant-loop-s
 invariant-loop-s l =
-    (l.s ≤ l.count) × (length l.bytes ≡ length l.initial.bytes) × Ready (length l.bytes) l.next
-    × (8 * l.next.at + l.next.held ≡ 8 * l.initial.next.at + l.initial.next.held + l.s * l.width)
+    (l.s ≤ l.count) × (length l.bytes ≡ length l.initial.bytes)
+    × (count_in l.next ≡ count_in l.initial.next + l.s * l.width)
     × (bits_in l.bytes l.next ≡ bits_in l.initial.bytes l.initial.next ++ row_bits l.row l.width l.s)
     × (drop l.next.at l.bytes ≡ drop l.next.at l.initial.bytes)
 

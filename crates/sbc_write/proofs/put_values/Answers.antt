@@ -17,8 +17,7 @@ unfolding value_bits_of collect
 loop-block-init c = (
   omega arith,
   refl,
-  c.requires.5,
-  omega (arith, zero-mul (size c.args.left_widths.now c.args.right_widths.now)),
+  omega (arith, zero-mul (size c.args.left_quantization.now.widths c.args.right_quantization.now.widths)),
   sym (append-nil (bits_in c.args.bytes.now c.args.writer)),
   refl,
 )
@@ -30,8 +29,8 @@ loop-block-preserved c =
     let n : ℕ = c.loop-block.block in
     let first = c.put_block-next in
     let second = c.put_block-next-in-loop-block in
-    let f : ℕ → List Bool = block_bits_of c.args.left.now c.args.left_widths.now c.args.left_factors.now in
-    let g : ℕ → List Bool = block_bits_of c.args.right.now c.args.right_widths.now c.args.right_factors.now in
+    let f : ℕ → List Bool = block_bits_of c.args.left.now c.args.left_quantization.now.widths c.args.left_quantization.now.factors in
+    let g : ℕ → List Bool = block_bits_of c.args.right.now c.args.right_quantization.now.widths c.args.right_quantization.now.factors in
     let mid : List Bool = bits_in c.loop-block.bytes c.loop-block.next in
     let one : List Bool = bits_in first.new.bytes first.result in
     let two : List Bool = bits_in second.new.bytes second.result in
@@ -40,12 +39,11 @@ loop-block-preserved c =
     let both : two ≡ mid ++ (f n ++ g n) = rw (right-written, left-written) (append_assoc mid (f n) (g n)) in (
       omega arith,
       second.auto.bytes ∙ first.auto.bytes ∙ v.1,
-      second.ensures.ready.0,
-      omega (arith, second.ensures.ready.1, first.ensures.ready.1, v.3, add-mul n 1 (size c.args.left_widths.now c.args.right_widths.now)),
-      one_more n (λ b. f b ++ g b) (bits_in c.args.bytes.now c.args.writer) mid v.4 two both,
+      omega (arith, second.ensures.counted, first.ensures.counted, v.2, add-mul n 1 (size c.args.left_quantization.now.widths c.args.right_quantization.now.widths)),
+      one_more n (λ b. f b ++ g b) (bits_in c.args.bytes.now c.args.writer) mid v.3 two both,
       behind_more first.result.at second.result.at c.args.bytes.now first.new.bytes _
-          (omega (arith, first.ensures.ready.0, second.ensures.ready.0, second.ensures.ready.1))
+          (omega (arith, second.ensures.counted, second.result.held_within))
           (behind_more c.loop-block.next.at first.result.at c.args.bytes.now c.loop-block.bytes _
-          (omega (arith, first.ensures.ready.0, first.ensures.ready.1, v.2)) v.5 first.ensures.ready.2)
-          second.ensures.ready.2,
+          (omega (arith, first.ensures.counted, first.result.held_within)) v.4 first.ensures.behind)
+          second.ensures.behind,
     )

@@ -7,7 +7,7 @@ use mathlib.Core.List.{List, ◌++◌}
 use lib.ListN.{length, drop}
 use Rattle.laws.specs.Lists.{total}
 use Rattle.sbc_frame.specs.Arrays.{entry}
-use Rattle.sbc_write.specs.Writing.{bits_in, Ready, value_bits_of}
+use Rattle.sbc_write.specs.Writing.{bits_in, count_in, value_bits_of}
 use Rattle.sbc_write.proofs.put_values.Given as goal
 
 -- how many bits a block has
@@ -16,11 +16,11 @@ size left-widths right-widths = total 8 (entry left-widths) + total 8 (entry rig
 
 abbrev pub invariant-loop-block : goal.invariant-loop-block
 invariant-loop-block l =
-    (l.block ≤ l.blocks) × (length l.bytes ≡ length l.initial.bytes) × Ready (length l.bytes) l.next
-    × (8 * l.next.at + l.next.held ≡ 8 * l.initial.next.at + l.initial.next.held + l.block * size l.left_widths l.right_widths)
+    (l.block ≤ l.blocks) × (length l.bytes ≡ length l.initial.bytes)
+    × (count_in l.next ≡ count_in l.initial.next + l.block * size l.left_quantization.widths l.right_quantization.widths)
     × (bits_in l.bytes l.next
     ≡ bits_in l.initial.bytes l.initial.next
-    ++ value_bits_of l.left l.right l.left_widths l.right_widths l.left_factors l.right_factors l.block)
+    ++ value_bits_of l.left l.right l.left_quantization.widths l.right_quantization.widths l.left_quantization.factors l.right_quantization.factors l.block)
     × (drop l.next.at l.bytes ≡ drop l.next.at l.initial.bytes)
 
 abbrev pub decreases-loop-block : goal.decreases-loop-block

@@ -8,7 +8,6 @@ use mathlib.Core.List.{List, [], ◌∷◌, ◌++◌, append_assoc}
 use native.Mathlib.Omega.{arith}
 use lib.ListN.{length, get_or}
 use lib.IntN.{ℤ}
-use Rattle.std.proofs.Common.{rules}
 use Rattle.sbc_parameters.specs.declared.SbcParameters.{SbcParameters}
 use Rattle.sbc_parameters.specs.Parameters.{channels, accepted}
 use Rattle.sbc_parameters.specs.Sizes.{join_count, frame_length}
@@ -59,112 +58,123 @@ pub put_row-flagged-requires : goal.put_row-flagged-requires
 put_row-flagged-requires c =
     let p : SbcParameters = c.args.parameters in
     let r = row-sizes p c.requires.0 in
-    let left : List ℕ = c.args.left_factors.now in
-    let right : List ℕ = c.args.right_factors.now in
-    let allocated = c.allocate-widths.ensures in
-    let fits = room p left right c.allocate-widths.result allocated c.requires.0 c.requires.2 c.requires.3 _ c.requires.1 in (
-      omega arith,
-      omega (arith, c.join_count-joins.ensures.0, r.joins-high),
-      λ s. omega (arith, c.requires.4 s),
-      (omega arith, omega arith, omega arith),
-      omega (arith, c.join_count-joins.ensures.0, fits.0),
-    )
+    let left : List ℕ = c.args.coding.now.factors.left in
+    let right : List ℕ = c.args.coding.now.factors.right in
+    let fits = room p left right c.allocate-widths.result c.allocate-widths.ensures c.requires.0 c.args.coding.now.factors.left_long c.args.coding.now.factors.right_long _
+    c.requires.1 in
+    record {
+      short = omega arith;
+      few = omega (arith, c.join_count-joins.ensures.0, r.joins-high);
+      low = λ s. omega (arith, c.args.coding.now.flags_within s);
+      room = omega (arith, c.join_count-joins.ensures.0, fits.0);
+    }
 
 pub put_row-half-requires : goal.put_row-half-requires
 put_row-half-requires c =
     let p : SbcParameters = c.args.parameters in
     let r = row-sizes p c.requires.0 in
-    let left : List ℕ = c.args.left_factors.now in
-    let right : List ℕ = c.args.right_factors.now in
-    let allocated = c.allocate-widths.ensures in
-    let fits = room p left right c.allocate-widths.result allocated c.requires.0 c.requires.2 c.requires.3 _ c.requires.1 in (
-      omega arith,
-      r.subbands-high,
-      λ s. omega (arith, c.requires.5 s),
-      c.put_row-flagged.ensures.ready.0,
-      omega (arith, c.put_row-flagged.ensures.ready.1, c.put_row-flagged.auto.bytes, c.join_count-joins.ensures.0, fits.0),
-    )
+    let left : List ℕ = c.args.coding.now.factors.left in
+    let right : List ℕ = c.args.coding.now.factors.right in
+    let fits = room p left right c.allocate-widths.result c.allocate-widths.ensures c.requires.0 c.args.coding.now.factors.left_long c.args.coding.now.factors.right_long _
+    c.requires.1 in
+    record {
+      short = omega arith;
+      few = r.subbands-high;
+      low = λ s. omega (arith, c.args.coding.now.factors.left_within s);
+      room = omega (arith, c.put_row-flagged.ensures.counted, c.put_row-flagged.auto.bytes, c.join_count-joins.ensures.0, fits.0);
+    }
 
 pub put_row-side-requires : goal.put_row-side-requires
 put_row-side-requires c =
     let p : SbcParameters = c.args.parameters in
     let r = row-sizes p c.requires.0 in
-    let left : List ℕ = c.args.left_factors.now in
-    let right : List ℕ = c.args.right_factors.now in
-    let allocated = c.allocate-widths.ensures in
-    let fits = room p left right c.allocate-widths.result allocated c.requires.0 c.requires.2 c.requires.3 _ c.requires.1 in
-    let others = others_is p c.channels.result c.channels.ensures in (
-      omega arith,
-      omega (arith, others, r.others-high),
-      λ s. omega (arith, c.requires.6 s),
-      c.put_row-half.ensures.ready.0,
-      omega (
-        arith,
-        c.put_row-half.ensures.ready.1,
-        c.put_row-half.auto.bytes,
-        c.put_row-flagged.ensures.ready.1,
-        c.put_row-flagged.auto.bytes,
-        c.join_count-joins.ensures.0,
-        others,
-        fits.0,
-      ),
-    )
+    let left : List ℕ = c.args.coding.now.factors.left in
+    let right : List ℕ = c.args.coding.now.factors.right in
+    let fits = room p left right c.allocate-widths.result c.allocate-widths.ensures c.requires.0 c.args.coding.now.factors.left_long c.args.coding.now.factors.right_long _
+    c.requires.1 in
+    let others = others_is p c.channels.result c.channels.ensures in
+    record {
+      short = omega arith;
+      few = omega (arith, others, r.others-high);
+      low = λ s. omega (arith, c.args.coding.now.factors.right_within s);
+      room =
+          omega (
+            arith,
+            c.put_row-half.ensures.counted,
+            c.put_row-half.auto.bytes,
+            c.put_row-flagged.ensures.counted,
+            c.put_row-flagged.auto.bytes,
+            c.join_count-joins.ensures.0,
+            others,
+            fits.0,
+          );
+    }
+
+pub invariant_of-left : goal.invariant_of-left
+invariant_of-left c =
+    let factors = c.args.coding.now.factors in
+    record {
+      widths_within = widths_16 c.args.parameters factors.left factors.right c.allocate-widths.result c.allocate-widths.ensures 0;
+      factors_within = factors.left_within;
+    }
+
+pub invariant_of-right : goal.invariant_of-right
+invariant_of-right c =
+    let factors = c.args.coding.now.factors in
+    record {
+      widths_within = widths_16 c.args.parameters factors.left factors.right c.allocate-widths.result c.allocate-widths.ensures 1;
+      factors_within = factors.right_within;
+    }
 
 pub put_values-end-requires : goal.put_values-end-requires
 put_values-end-requires c =
     let p : SbcParameters = c.args.parameters in
-    let table : List (List ℕ) = c.allocate-widths.result in
-    let left : List ℕ = c.args.left_factors.now in
-    let right : List ℕ = c.args.right_factors.now in
-    let allocated = c.allocate-widths.ensures in
-    let fits = room p left right table allocated c.requires.0 c.requires.2 c.requires.3 _ c.requires.1 in
-    let others = others_is p c.channels.result c.channels.ensures in (
-      (ranges p c.requires.0).blocks-high,
-      widths_16 p left right table c.allocate-widths.ensures 0,
-      widths_16 p left right table c.allocate-widths.ensures 1,
-      c.requires.5,
-      c.requires.6,
-      c.put_row-side.ensures.ready.0,
-      omega (
-        arith,
-        c.put_row-side.ensures.ready.1,
-        c.put_row-side.auto.bytes,
-        c.put_row-half.ensures.ready.1,
-        c.put_row-half.auto.bytes,
-        c.put_row-flagged.ensures.ready.1,
-        c.put_row-flagged.auto.bytes,
-        c.join_count-joins.ensures.0,
-        others,
-        fits.0,
-      ),
-    )
+    let left : List ℕ = c.args.coding.now.factors.left in
+    let right : List ℕ = c.args.coding.now.factors.right in
+    let fits = room p left right c.allocate-widths.result c.allocate-widths.ensures c.requires.0 c.args.coding.now.factors.left_long c.args.coding.now.factors.right_long _
+    c.requires.1 in
+    let others = others_is p c.channels.result c.channels.ensures in
+    record {
+      few = (ranges p c.requires.0).blocks-high;
+      room =
+          omega (
+            arith,
+            c.put_row-side.ensures.counted,
+            c.put_row-side.auto.bytes,
+            c.put_row-half.ensures.counted,
+            c.put_row-half.auto.bytes,
+            c.put_row-flagged.ensures.counted,
+            c.put_row-flagged.auto.bytes,
+            c.join_count-joins.ensures.0,
+            others,
+            fits.0,
+          );
+    }
 
 pub finish-requires : goal.finish-requires
 finish-requires c =
     let p : SbcParameters = c.args.parameters in
-    let table : List (List ℕ) = c.allocate-widths.result in
-    let left : List ℕ = c.args.left_factors.now in
-    let right : List ℕ = c.args.right_factors.now in
-    let allocated = c.allocate-widths.ensures in
-    let fits = room p left right table allocated c.requires.0 c.requires.2 c.requires.3 _ c.requires.1 in
-    let others = others_is p c.channels.result c.channels.ensures in (
-      c.put_values-end.ensures.ready.0,
-      omega (
-        arith,
-        c.put_values-end.ensures.ready.1,
-        c.put_values-end.auto.bytes,
-        c.put_row-side.ensures.ready.1,
-        c.put_row-side.auto.bytes,
-        c.put_row-half.ensures.ready.1,
-        c.put_row-half.auto.bytes,
-        c.put_row-flagged.ensures.ready.1,
-        c.put_row-flagged.auto.bytes,
-        c.join_count-joins.ensures.0,
-        others,
-        fits.1,
-      ),
-      search rules,
+    let left : List ℕ = c.args.coding.now.factors.left in
+    let right : List ℕ = c.args.coding.now.factors.right in
+    let fits = room p left right c.allocate-widths.result c.allocate-widths.ensures c.requires.0 c.args.coding.now.factors.left_long c.args.coding.now.factors.right_long _
+    c.requires.1 in
+    let others = others_is p c.channels.result c.channels.ensures in
+    let end : ℕ = 8 * c.put_values-end.result.at + c.put_values-end.result.held in
+    let all : end ≡ body_width p c.allocate-widths.result =
+    omega (
+      arith,
+      c.put_values-end.ensures.counted,
+      c.put_row-side.ensures.counted,
+      c.put_row-half.ensures.counted,
+      c.put_row-flagged.ensures.counted,
+      c.join_count-joins.ensures.0,
+      others,
     )
+    in
+    let long : length c.put_values-end.new.bytes ≡ length c.args.body.now =
+    omega (arith, c.put_values-end.auto.bytes, c.put_row-side.auto.bytes, c.put_row-half.auto.bytes, c.put_row-flagged.auto.bytes)
+    in
+    record { room = omega (arith, all, long, fits.0); last = omega (arith, all, long, fits.1) }
 
 pub returns : goal.returns
 returns c =
@@ -179,10 +189,10 @@ returns c =
       c.requires.1,
     )
     in
-    let left : List ℕ = c.args.left_factors.now in
-    let right : List ℕ = c.args.right_factors.now in
+    let left : List ℕ = c.args.coding.now.factors.left in
+    let right : List ℕ = c.args.coding.now.factors.right in
     let others = others_is p c.channels.result c.channels.ensures in
-    let wrote = in_order p left right _ _ _ c.args.flags.now _ _ _ _ _ _ _ (no_bits c.args.body.now) c.join_count-joins.ensures.0 others
+    let wrote = in_order p left right _ _ _ c.args.coding.now.flags _ _ _ _ _ _ _ (no_bits c.args.body.now) c.join_count-joins.ensures.0 others
     c.put_row-flagged.ensures.written c.put_row-half.ensures.written c.put_row-side.ensures.written c.put_values-end.ensures.written
     c.allocate-widths.ensures
     in

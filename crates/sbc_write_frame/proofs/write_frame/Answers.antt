@@ -45,11 +45,6 @@ write_body-requires c =
     let long : length xs ≡ frame_length c.args.parameters = length-headed c.header-header.result c.args.frame.now ∙ c.requires.1 in (
       c.requires.0,
       ap (λ (l : List ℕ). length l + 4) (tail-part 4 xs) ∙ omega (arith, length-drop 4 xs, long, four c.args.parameters),
-      c.requires.2,
-      c.requires.3,
-      c.requires.4,
-      c.requires.5,
-      c.requires.6,
     )
 
 pub bounds-frame-3 : goal.bounds-frame-3
