@@ -1,10 +1,12 @@
 -- `sbc_encode_frame::encode_frame` meets its contract: what is coded of the samples (`CodingIn`) is written as the frame's bytes.
 -- Assumes nothing.
-use mathlib.Core.Path.{◌∙◌}
+use mathlib.Core.Path.{ap, ◌∙◌}
 use mathlib.Core.List.{[], ◌∷◌}
 use native.Mathlib.Omega.{arith}
+use lib.ListN.{length}
 use Rattle.sbc_parameters.proofs.Accepted.{channels-range, ranges}
 use Rattle.sbc_frame.specs.Encoding.{channel_samples, encode_fields}
+use Rattle.sbc_frame.proofs.Columns.{length-array}
 use Rattle.sbc_frame.proofs.Blocks.{asked}
 use Rattle.sbc_encode_frame.proofs.Packed.{coding-packed, histories-analyzed, channels-analyzed}
 use Rattle.sbc_encode_frame.proofs.encode_frame.Goals as goal
