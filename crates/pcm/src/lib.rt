@@ -6,6 +6,7 @@ ghost use Rattle.laws.specs.Lists.{collect};
 ghost use Rattle.pcm.specs.Samples.{samples_in, low_byte, high_byte};
 
 // Reads each sample from its two bytes.
+#[tactic(auto, unfolding(crate::specs::Samples::samples_in, laws::specs::Lists::build, laws::specs::Lists::collect))]
 pub fn read(bytes: &[u8], samples: &mut [i16])
     requires { length bytes.now ≡ 2 * length samples.old }
     ensures { samples.new ≡ samples_in (length samples.old) bytes.now }
@@ -16,6 +17,7 @@ pub fn read(bytes: &[u8], samples: &mut [i16])
 }
 
 // Writes each sample as its two bytes.
+#[tactic(auto, unfolding(laws::specs::Lists::collect))]
 pub fn write(samples: &[i16], bytes: &mut [u8])
     requires { length bytes.old ≡ 2 * length samples.now }
     ensures { bytes.new

@@ -5,7 +5,7 @@
 use Prim.Native.Nat.{ℕ, ◌+◌, ◌-◌, ◌/◌}
 use mathlib.Core.Path.{◌≡◌, sym, ap, ◌∙◌}
 use native.Mathlib.Omega.{arith}
-use lib.ListN.{set, length-set}
+use lib.ListN.{set}
 use Rattle.bits.specs.Fields.{overwritten}
 use Rattle.bits.proofs.Bytewise.{set-small, overwritten-step, overwritten-none}
 use Rattle.bits.proofs.overwrite.Goals as goal
@@ -19,17 +19,12 @@ loop-left-preserved c =
     let step : overwritten (set l.bytes (l.at / 8) x) (l.at + n) a.value (l.left - n)
     ≡ overwritten l.bytes l.at a.value l.left =
     overwritten-step l.bytes l.at a.value l.left n x (omega arith) (omega arith) (omega arith) (omega arith)
-    c.with_bits.ensures in (
-      omega arith,
-      omega arith,
-      length-set l.bytes (l.at / 8) x ∙ l.invariant.2,
-      set-small l.bytes (l.at / 8) x (omega (arith, c.with_bits.type_inv)) l.invariant.3,
-      step ∙ l.invariant.4,
-    )
+    c.with_bits.ensures in
+    (omega arith, omega arith, set-small l.bytes (l.at / 8) x (omega (arith, c.with_bits.type_inv)) l.invariant.2, step ∙ l.invariant.3)
 
 pub returns : goal.returns
 returns c =
     let l = c.loop-left in
     let a = c.args in
     let e : l.left ≡ 0 = omega arith in
-    sym (overwritten-none l.bytes l.at a.value l.invariant.3) ∙ ap (overwritten l.bytes l.at a.value) (sym e) ∙ l.invariant.4
+    sym (overwritten-none l.bytes l.at a.value l.invariant.2) ∙ ap (overwritten l.bytes l.at a.value) (sym e) ∙ l.invariant.3

@@ -4,14 +4,13 @@
 -- Assumes nothing.
 use Prim.Native.Nat.{ℕ, ◌+◌, ◌≤◌, ◌<◌}
 use mathlib.Core.Path.{◌≡◌}
-use lib.ListN.{length, get_or}
+use lib.ListN.{get_or}
 use Rattle.bits.specs.Fields.{overwritten}
 use Rattle.bits.proofs.overwrite.Given as goal
 
 abbrev pub invariant-loop-left : goal.invariant-loop-left
 invariant-loop-left l =
-    (l.at + l.left ≡ l.position + l.count) × (l.left ≤ l.count) × (length l.bytes ≡ length l.initial.bytes)
-    × ((k : ℕ) → get_or l.bytes k 0 < 256)
+    (l.at + l.left ≡ l.position + l.count) × (l.left ≤ l.count) × ((k : ℕ) → get_or l.bytes k 0 < 256)
     × (overwritten l.bytes l.at l.value l.left ≡ overwritten l.initial.bytes l.position l.value l.count)
 
 abbrev pub decreases-loop-left : goal.decreases-loop-left

