@@ -1,15 +1,14 @@
 -- What an encode or decode call gives back, by document 01's numbers ("Given back").
-use Rattle.std.specs.Prelude.{ℕ, ◌+◌, ◌/◌, min, Bool, ◌&&◌, eqb, if◌then◌else◌}
+use Rattle.std.specs.Prelude.{ℕ, ◌+◌, ◌/◌, min, Bool, ◌&&◌, eqb, if◌then◌else◌, Result, Ok, Err}
 use Rattle.laws.specs.Answers.{Told, gives, refuses}
 use Rattle.codec.specs.Errors.{error_number}
+use Rattle.codec.specs.declared.Error.{Error}
 use Rattle.codec.specs.declared.Progress.{Progress}
-use Rattle.codec.specs.declared.Coded.{Coded}
-use Rattle.codec.specs.declared.Coded.TheVariants.{Done, Refused}
 
--- the progress, or the number of the refusal
-unfoldable pub told_coded : Coded → Told Progress
-told_coded (Done progress) = gives progress
-told_coded (Refused e) = refuses (error_number e)
+-- what a call gives, or the number of its refusal
+abbrev pub told : {A : Type 0} → Result A Error → Told A
+told (Ok a) = gives a
+told (Err e) = refuses (error_number e)
 
 -- what a call consumed and what it produced
 unfoldable pub progress_of : ℕ → ℕ → Progress

@@ -3,10 +3,10 @@
 
 ghost use Rattle.std.specs.Prelude.{◌≡◌};
 ghost use Rattle.codec.specs.Errors.{error_number};
-ghost use Rattle.codec.specs.Answers.{told_coded, progress_of, is_stalled, refused_after};
+ghost use Rattle.codec.specs.Answers.{told, progress_of, is_stalled, refused_after};
 
 // Why a call was refused.
-#[derive(Clone, Copy)]
+#[derive(Clone, Copy, Debug, PartialEq, Eq)]
 pub enum Error {
     Incomplete,
     InvalidHeader,
@@ -15,12 +15,12 @@ pub enum Error {
     BufferTooSmall,
 }
 
-impl Error {
-    // The refusal's number in document 01.
-    pub fn number(self) -> u8
-        ensures { result ≡ error_number self }
-    {
-        match self {
+// The refusal's number in document 01.
+impl From<Error> for u8 {
+    ghost from_gives = { λ error number. number ≡ error_number error };
+
+    fn from(error: Error) -> u8 {
+        match error {
             Error::Incomplete => 1,
             Error::InvalidHeader => 2,
             Error::InvalidParameter => 3,
@@ -31,13 +31,14 @@ impl Error {
 }
 
 // How much a call consumed and produced: bytes and samples for a decoder, samples and bytes for an encoder.
-#[derive(Clone, Copy)]
+#[derive(Clone, Copy, Debug, PartialEq, Eq)]
 pub struct Progress {
     pub consumed: usize,
     pub produced: usize,
 }
 
 impl Progress {
+    #[tactic(auto, unfolding(crate::specs::Answers::progress_of))]
     pub fn new(consumed: usize, produced: usize) -> Progress
         ensures { result ≡ progress_of consumed produced }
     {
@@ -45,6 +46,7 @@ impl Progress {
     }
 
     // Whether nothing was consumed or produced.
+    #[tactic(auto, unfolding(crate::specs::Answers::is_stalled))]
     pub fn is_stalled(self) -> bool
         ensures { result ≡ is_stalled self }
     {
@@ -52,19 +54,13 @@ impl Progress {
     }
 }
 
-// What a decode or encode call gives back.
-#[derive(Clone, Copy)]
-pub enum Coded {
-    Done(Progress),
-    Refused(Error),
-}
-
 // What a refusal makes a call give back: the progress where a frame was accepted before it.
-pub fn refusal_or_progress(error: Error, progress: Progress) -> Coded
-    ensures { told_coded result ≡ refused_after progress (error_number error) }
+#[tactic(auto, unfolding(crate::specs::Answers::refused_after))]
+pub fn refusal_or_progress(error: Error, progress: Progress) -> Result<Progress, Error>
+    ensures { told result ≡ refused_after progress (error_number error) }
 {
     if progress.consumed == 0 {
-        return Coded::Refused(error);
+        return Err(error);
     }
-    Coded::Done(progress)
+    Ok(progress)
 }
