@@ -12,19 +12,19 @@ use Rattle.sbc_modes.specs.declared.SbcAllocation.{SbcAllocation}
 use Rattle.sbc_modes.specs.declared.SbcAllocation.TheVariants.{Loudness, Snr}
 
 -- ---- from the number to the value: the last value stands for every number past the others
-pub mode-rest : (n : ℕ) → (n ≡ 0 → ⊥) → (n ≡ 1 → ⊥) → (n ≡ 2 → ⊥) → get_or channel_modes n JointStereo ≡ JointStereo
+pub mode_rest : (n : ℕ) → (n ≡ 0 → ⊥) → (n ≡ 1 → ⊥) → (n ≡ 2 → ⊥) → get_or channel_modes n JointStereo ≡ JointStereo
 unfolding channel_modes
-mode-rest zero a b c = absurd (a refl)
-mode-rest (suc zero) a b c = absurd (b refl)
-mode-rest (suc (suc zero)) a b c = absurd (c refl)
-mode-rest (suc (suc (suc zero))) a b c = refl
-mode-rest (suc (suc (suc (suc n)))) a b c = refl
+mode_rest zero a b c = absurd (a refl)
+mode_rest (suc zero) a b c = absurd (b refl)
+mode_rest (suc (suc zero)) a b c = absurd (c refl)
+mode_rest (suc (suc (suc zero))) a b c = refl
+mode_rest (suc (suc (suc (suc n)))) a b c = refl
 
-pub allocation-rest : (n : ℕ) → (n ≡ 0 → ⊥) → get_or allocations n Snr ≡ Snr
+pub allocation_rest : (n : ℕ) → (n ≡ 0 → ⊥) → get_or allocations n Snr ≡ Snr
 unfolding allocations
-allocation-rest zero a = absurd (a refl)
-allocation-rest (suc zero) a = refl
-allocation-rest (suc (suc n)) a = refl
+allocation_rest zero a = absurd (a refl)
+allocation_rest (suc zero) a = refl
+allocation_rest (suc (suc n)) a = refl
 
 -- ---- from the value to its number and back
 pub mode-lt : (m : SbcChannelMode) → mode_number m < 4

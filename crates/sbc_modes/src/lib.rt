@@ -7,7 +7,7 @@ ghost use Rattle.sbc_modes.specs.declared.SbcChannelMode.TheVariants.{JointStere
 ghost use Rattle.sbc_modes.specs.declared.SbcAllocation.TheVariants.{Snr};
 
 // How a frame codes its channels.
-#[derive(Clone, Copy)]
+#[derive(Clone, Copy, Debug, PartialEq, Eq)]
 pub enum SbcChannelMode {
     // One channel.
     Mono,
@@ -20,7 +20,7 @@ pub enum SbcChannelMode {
 }
 
 // How the bitpool is spread across subbands.
-#[derive(Clone, Copy)]
+#[derive(Clone, Copy, Debug, PartialEq, Eq)]
 pub enum SbcAllocation {
     // Weighted by a model of hearing, the usual choice.
     Loudness,
@@ -35,9 +35,7 @@ impl SbcChannelMode {
     {
         match self {
             SbcChannelMode::Mono => 1,
-            SbcChannelMode::DualChannel => 2,
-            SbcChannelMode::Stereo => 2,
-            SbcChannelMode::JointStereo => 2,
+            _ => 2,
         }
     }
 
@@ -45,39 +43,19 @@ impl SbcChannelMode {
     pub fn is_separate(self) -> bool
         ensures { result ≡ separate self }
     {
-        match self {
-            SbcChannelMode::Mono => true,
-            SbcChannelMode::DualChannel => true,
-            SbcChannelMode::Stereo => false,
-            SbcChannelMode::JointStereo => false,
-        }
+        matches!(self, SbcChannelMode::Mono | SbcChannelMode::DualChannel)
     }
 
     // Whether subbands may be joined.
     pub fn is_joint(self) -> bool
         ensures { result ≡ is_joint self }
     {
-        match self {
-            SbcChannelMode::Mono => false,
-            SbcChannelMode::DualChannel => false,
-            SbcChannelMode::Stereo => false,
-            SbcChannelMode::JointStereo => true,
-        }
-    }
-
-    // Its number in the header.
-    pub fn number(self) -> u8
-        ensures { result ≡ mode_number self }
-    {
-        match self {
-            SbcChannelMode::Mono => 0,
-            SbcChannelMode::DualChannel => 1,
-            SbcChannelMode::Stereo => 2,
-            SbcChannelMode::JointStereo => 3,
-        }
+        matches!(self, SbcChannelMode::JointStereo)
     }
 
     // The mode of a number in the header; every number past 2 counts as 3.
+    // Kept: no number is refused, so it is no TryFrom, and four modes cannot give back 256 numbers, so From would say too much.
+    #[tactic(auto, using(crate::proofs::Numbers::mode_rest), unfolding(crate::specs::Modes::channel_modes))]
     pub fn from_number(number: u8) -> SbcChannelMode
         ensures { result ≡ get_or channel_modes number JointStereo }
     {
@@ -90,24 +68,42 @@ impl SbcChannelMode {
     }
 }
 
-impl SbcAllocation {
-    // Its number in the header.
-    pub fn number(self) -> u8
-        ensures { result ≡ allocation_number self }
-    {
-        match self {
-            SbcAllocation::Loudness => 0,
-            SbcAllocation::Snr => 1,
+// The mode's number in the header.
+impl From<SbcChannelMode> for u8 {
+    ghost from_gives = { λ mode number. number ≡ mode_number mode };
+
+    fn from(mode: SbcChannelMode) -> u8 {
+        match mode {
+            SbcChannelMode::Mono => 0,
+            SbcChannelMode::DualChannel => 1,
+            SbcChannelMode::Stereo => 2,
+            SbcChannelMode::JointStereo => 3,
         }
     }
+}
 
+impl SbcAllocation {
     // The allocation of a number in the header; every number past 0 counts as 1.
+    // Kept: as the mode of a number.
+    #[tactic(auto, using(crate::proofs::Numbers::allocation_rest), unfolding(crate::specs::Modes::allocations))]
     pub fn from_number(number: u8) -> SbcAllocation
         ensures { result ≡ get_or allocations number Snr }
     {
         match number {
             0 => SbcAllocation::Loudness,
             _ => SbcAllocation::Snr,
+        }
+    }
+}
+
+// The allocation's number in the header.
+impl From<SbcAllocation> for u8 {
+    ghost from_gives = { λ allocation number. number ≡ allocation_number allocation };
+
+    fn from(allocation: SbcAllocation) -> u8 {
+        match allocation {
+            SbcAllocation::Loudness => 0,
+            SbcAllocation::Snr => 1,
         }
     }
 }
