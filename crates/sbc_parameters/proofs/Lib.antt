@@ -2,4 +2,3 @@
 pub mod Numbers
 pub mod Accepted
 pub mod Parsing
-pub mod Answers

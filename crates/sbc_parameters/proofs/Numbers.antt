@@ -8,6 +8,7 @@ use lib.ListN.{get_or}
 use Rattle.laws.specs.Lists.{place_in}
 use Rattle.laws.proofs.Tests.{place-lt}
 use Rattle.sbc_parameters.specs.Parameters.{sample_rates, block_counts, subband_counts}
+use Rattle.sbc_modes.proofs.Numbers.{mode-lt, allocation-lt}
 use Rattle.sbc_parameters.specs.Header.{frequency_index}
 use Rattle.sbc_parameters.specs.declared.SbcParameters.{SbcParameters}
 
@@ -26,6 +27,8 @@ subbands-at zero h = refl
 subbands-at (suc zero) h = refl
 subbands-at (suc (suc n)) h = absurd (omega arith)
 
+pub ruleset listed_at = (blocks_at, subbands-at)
+
 -- ---- the places of values are indexes of their lists
 pub frequency-lt : (p : SbcParameters) → frequency_index p < 4
 unfolding frequency_index sample_rates
@@ -38,3 +41,5 @@ blocks-lt x = place-lt x block_counts (lit< tt)
 pub subbands-lt : (x : ℕ) → place_in x subband_counts < 2
 unfolding subband_counts
 subbands-lt x = place-lt x subband_counts (lit< tt)
+
+pub ruleset header_places = (frequency-lt, blocks-lt, subbands-lt, mode-lt, allocation-lt)

@@ -28,8 +28,6 @@ pub parse-short : (bytes : List ℕ) → length bytes < 3 → parse bytes ≡ re
 unfolding parse
 parse-short bytes l = rw (lt-ltb (length bytes) 3 l)
 
-pub ruleset short_header = (parse-short)
-
 pub parse-msbc : (bytes : List ℕ) → 3 ≤ length bytes → get_or bytes 0 0 ≡ 0xAD → parse bytes ≡ gives msbc
 unfolding parse
 parse-msbc bytes l e = rw (le-ltb (length bytes) 3 l, e)
@@ -43,6 +41,8 @@ parse-fields bytes l e = rw (le-ltb (length bytes) 3 l, e)
 pub parse-other : (bytes : List ℕ) → 3 ≤ length bytes → (get_or bytes 0 0 ≡ 0xAD → ⊥) → (get_or bytes 0 0 ≡ 0x9C → ⊥) → parse bytes ≡ refuses 2
 unfolding parse
 parse-other bytes l m n = rw (le-ltb (length bytes) 3 l, ne_eqb (get_or bytes 0 0) 0xAD m, ne_eqb (get_or bytes 0 0) 0x9C n)
+
+pub ruleset parse_cases = (parse-short, parse-msbc, parse-fields, parse-other)
 
 -- ---- a written header is read back
 digits : (r b m a s : ℕ) → r < 4 → b < 4 → m < 4 → a < 2 → s < 2 → let n = r * 64 + b * 16 + m * 4 + a * 2 + s in

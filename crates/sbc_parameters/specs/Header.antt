@@ -2,14 +2,11 @@
 use Rattle.std.specs.Prelude.{ℕ, ◌+◌, ◌*◌, ◌/◌, ◌%◌, List, [], ◌∷◌, eqb, ltb, length, get_or, if◌then◌else◌}
 use Rattle.laws.specs.Answers.{Told, gives, refuses}
 use Rattle.laws.specs.Lists.{place_in}
-use Rattle.codec.specs.Errors.{error_number}
 use Rattle.sbc_modes.specs.Modes.{channel_modes, allocations, mode_number, allocation_number}
 use Rattle.sbc_parameters.specs.Parameters.{sample_rates, block_counts, subband_counts, is_msbc, msbc, accepted}
 use Rattle.sbc_modes.specs.declared.SbcChannelMode.TheVariants.{JointStereo}
 use Rattle.sbc_modes.specs.declared.SbcAllocation.TheVariants.{Snr}
 use Rattle.sbc_parameters.specs.declared.SbcParameters.{SbcParameters}
-use Rattle.sbc_parameters.specs.declared.Parsed.{Parsed}
-use Rattle.sbc_parameters.specs.declared.Parsed.TheVariants.{Parameters, Refused}
 
 -- ---- writing: each field by the index of its value in its list; a value that is not listed, which no accepted set has, counts as index 0
 
@@ -40,11 +37,6 @@ from_settings settings bitpool =
       subbands = get_or subband_counts (settings % 2) 0;
       bitpool = bitpool;
     }
-
--- what parse gives back, by document 01's numbers
-unfoldable pub told_parsed : Parsed → Told SbcParameters
-told_parsed (Parameters p) = gives p
-told_parsed (Refused e) = refuses (error_number e)
 
 -- under 3 bytes Incomplete, even after AD; InvalidHeader where the first byte is neither 9C nor AD, or the bitpool is out of range
 unfoldable pub parse : List ℕ → Told SbcParameters

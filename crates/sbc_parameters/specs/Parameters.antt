@@ -2,13 +2,10 @@
 use Rattle.std.specs.Prelude.{ℕ, ◌*◌, Bool, List, [], ◌∷◌, eqb, leb, ltb, if◌then◌else◌}
 use Rattle.laws.specs.Answers.{Told, gives, refuses}
 use Rattle.laws.specs.Lists.{all_of, listed}
-use Rattle.codec.specs.Errors.{error_number}
 use Rattle.sbc_modes.specs.Modes.{mode_number, allocation_number, channels_of, separate}
 use Rattle.sbc_modes.specs.declared.SbcChannelMode.TheVariants.{Mono, JointStereo}
 use Rattle.sbc_modes.specs.declared.SbcAllocation.TheVariants.{Loudness}
 use Rattle.sbc_parameters.specs.declared.SbcParameters.{SbcParameters}
-use Rattle.sbc_parameters.specs.declared.Validated.{Validated}
-use Rattle.sbc_parameters.specs.declared.Validated.TheVariants.{Accepted, Refused}
 
 -- ---- the two sets that have a name
 
@@ -69,10 +66,6 @@ unfoldable pub accepted : SbcParameters → Bool
 accepted p = all_of (if is_msbc p then msbc_tests p else field_tests p)
 
 -- ---- validate: InvalidParameter where the set is not accepted
-
-unfoldable pub told_validated : Validated → Told Unit
-told_validated Accepted = gives tt
-told_validated (Refused e) = refuses (error_number e)
 
 unfoldable pub validate : SbcParameters → Told Unit
 validate p = if accepted p then gives tt else refuses 3

@@ -1,14 +1,17 @@
 // The parameters of an SBC stream: which sets are accepted, the sizes of a frame, and its header.
 #![tactic(auto)]
 
-ghost use Rattle.std.specs.Prelude.{◌≡◌, ◌+◌, ◌*◌, ◌<◌, ◌≤◌};
+ghost use Rattle.std.specs.Prelude.{◌≡◌, ◌+◌, ◌*◌, ◌<◌, ◌≤◌, false, IfOk, IfErr};
 ghost use Rattle.laws.specs.Lists.{all_of};
-ghost use Rattle.sbc_parameters.specs.Parameters.{high_quality, msbc, channels, maximum_bitpool, is_msbc, msbc_tests, field_tests};
-ghost use Rattle.sbc_parameters.specs.Parameters.{accepted, told_validated, validate};
+ghost use Rattle.codec.specs.Answers.{told};
+ghost use Rattle.sbc_parameters.specs.Parameters.{high_quality, msbc, channels, maximum_bitpool, is_msbc, field_tests, accepted, validate};
 ghost use Rattle.sbc_parameters.specs.Sizes.{join_count, side_bits, block_bits, frame_length, samples_per_channel, frame_samples};
 ghost use Rattle.sbc_parameters.specs.Sizes.{maximum_frame_length, maximum_frame_samples};
-ghost use Rattle.sbc_parameters.specs.Header.{frequency_index, settings_byte, header, from_settings, told_parsed, parse};
+ghost use Rattle.sbc_parameters.specs.Header.{frequency_index, settings_byte, header, from_settings, parse};
 
+mod accepted_set;
+
+pub use accepted_set::AcceptedSet;
 use codec::Error;
 use laws::{is_listed, place_in};
 use sbc_modes::{SbcAllocation, SbcChannelMode};
@@ -48,7 +51,7 @@ const BLOCK_COUNTS: [u32; 4] = [4, 8, 12, 16];
 const SUBBAND_COUNTS: [u32; 2] = [4, 8];
 
 // The parameters of an SBC stream, as each frame header has them.
-#[derive(Clone, Copy)]
+#[derive(Clone, Copy, Debug, PartialEq, Eq)]
 pub struct SbcParameters {
     // In Hz: 16000, 32000, 44100 or 48000.
     pub sample_rate: u32,
@@ -62,38 +65,13 @@ pub struct SbcParameters {
     pub bitpool: u8,
 }
 
-// What `parse` gives back.
-#[derive(Clone, Copy)]
-pub enum Parsed {
-    Parameters(SbcParameters),
-    Refused(Error),
-}
-
-// What `validate` gives back.
-#[derive(Clone, Copy)]
-pub enum Validated {
-    Accepted,
-    Refused(Error),
-}
-
-fn product(a: u8, b: u8) -> usize
-    ensures { (result ≡ a * b) × (result ≤ 65025) }
-{
-    (a as usize) * (b as usize)
-}
-
-fn wide(x: u8) -> usize
-    ensures { (result ≡ x) × (result ≤ 255) }
-{
-    x as usize
-}
-
 // The parameters that a header's settings byte and bitpool say.
+#[tactic(auto, using(crate::proofs::Numbers::listed_at), unfolding(crate::specs::Header::from_settings, crate::specs::Parameters::sample_rates))]
 fn from_settings(settings: u8, bitpool: u8) -> SbcParameters
     ensures { result ≡ from_settings settings bitpool }
 {
     SbcParameters {
-        sample_rate: SAMPLE_RATES[wide(settings / 64)],
+        sample_rate: SAMPLE_RATES[usize::from(settings / 64)],
         channel_mode: SbcChannelMode::from_number(settings / 4 % 4),
         allocation: SbcAllocation::from_number(settings / 2 % 2),
         blocks: 4 * (settings / 16 % 4 + 1),
@@ -131,12 +109,7 @@ impl SbcParameters {
         bitpool: 26,
     };
 
-    pub fn default() -> SbcParameters
-        ensures { result ≡ high_quality }
-    {
-        SbcParameters::HIGH_QUALITY
-    }
-
+    #[tactic(auto, unfolding(crate::specs::Parameters::msbc))]
     pub fn hands_free() -> SbcParameters
         ensures { result ≡ msbc }
     {
@@ -144,87 +117,69 @@ impl SbcParameters {
     }
 
     // Reads the parameters from the first bytes of a frame.
-    #[tactic(auto, using(crate::proofs::Parsing::short_header), unfolding(crate::specs::Header::told_parsed))]
-    pub fn parse(header: &[u8]) -> Parsed
-        ensures { told_parsed result ≡ parse header.now }
+    #[tactic(auto, using(crate::proofs::Parsing::parse_cases), unfolding(crate::specs::Parameters::msbc))]
+    pub fn parse(header: &[u8]) -> Result<SbcParameters, Error>
+        ensures { told result ≡ parse header.now }
     {
         if header.len() < 3 {
-            return Parsed::Refused(Error::Incomplete);
+            return Err(Error::Incomplete);
         }
         if header[0] == MSBC_SYNCHRONIZATION {
-            return Parsed::Parameters(SbcParameters::MSBC);
+            return Ok(SbcParameters::MSBC);
         }
         if header[0] == SYNCHRONIZATION {
             let parameters = from_settings(header[1], header[2]);
             if parameters.is_accepted() {
-                return Parsed::Parameters(parameters);
+                return Ok(parameters);
             }
         }
-        Parsed::Refused(Error::InvalidHeader)
+        Err(Error::InvalidHeader)
     }
 
     // Checks that the parameters fit in a frame header; 15 blocks only as mSBC.
-    pub fn validate(self) -> Validated
-        ensures { told_validated result ≡ validate self }
+    #[tactic(auto, unfolding(crate::specs::Parameters::validate))]
+    pub fn validate(self) -> Result<(), Error>
+        ensures { told result ≡ validate self }
     {
-        if self.is_accepted() {
-            return Validated::Accepted;
-        }
-        Validated::Refused(Error::InvalidParameter)
+        self.accepted()?;
+        Ok(())
     }
 
+    // The same check, which hands on what it found in the type of what it gives.
+    pub fn accepted(self) -> Result<AcceptedSet, Error>
+        ensures ok { IfOk result (λ taken. taken.set ≡ self) }
+        ensures err { IfErr result (λ error. (error ≡ Error.InvalidParameter) × (accepted self ≡ false)) }
+    {
+        if self.is_accepted() {
+            return Ok(AcceptedSet { set: self });
+        }
+        Err(Error::InvalidParameter)
+    }
+
+    #[tactic(auto, unfolding(crate::specs::Parameters::accepted))]
     fn is_accepted(self) -> bool
         ensures { result ≡ accepted self }
     {
         if self.is_msbc() {
-            return self.has_msbc_fields();
+            return self == SbcParameters::MSBC;
         }
         self.has_listed_fields()
     }
 
-    // Whether the fields beside the blocks are mSBC's.
-    fn has_msbc_fields(self) -> bool
-        ensures { result ≡ all_of (msbc_tests self) }
-    {
-        let mode = self.channel_mode;
-        let allocation = self.allocation;
-        if self.sample_rate != 16_000 {
-            return false;
-        }
-        if mode.number() != 0 {
-            return false;
-        }
-        if allocation.number() != 0 {
-            return false;
-        }
-        if self.subbands != 8 {
-            return false;
-        }
-        self.bitpool == 26
-    }
-
     // Whether each field has a value that a header can say.
-    #[tactic(auto, using(crate::proofs::Accepted::low_bitpool))]
+    #[tactic(auto, unfolding(crate::specs::Parameters::field_tests, crate::specs::Parameters::sample_rates, crate::specs::Parameters::block_counts, crate::specs::Parameters::subband_counts, laws::specs::Lists::all_of))]
     fn has_listed_fields(self) -> bool
         ensures { result ≡ all_of (field_tests self) }
     {
-        if !is_listed(self.sample_rate, &SAMPLE_RATES) {
-            return false;
-        }
-        if !is_listed(self.blocks as u32, &BLOCK_COUNTS) {
-            return false;
-        }
-        if !is_listed(self.subbands as u32, &SUBBAND_COUNTS) {
-            return false;
-        }
-        let bitpool = wide(self.bitpool);
-        if bitpool < 2 {
-            return false;
-        }
-        bitpool <= self.maximum_bitpool()
+        is_listed(self.sample_rate, &SAMPLE_RATES)
+            && is_listed(u32::from(self.blocks), &BLOCK_COUNTS)
+            && is_listed(u32::from(self.subbands), &SUBBAND_COUNTS)
+            && self.bitpool >= 2
+            && usize::from(self.bitpool) <= self.maximum_bitpool()
     }
 
     // Whether these are mSBC parameters, recognized by their 15 blocks.
+    #[tactic(auto, unfolding(crate::specs::Parameters::is_msbc))]
     pub fn is_msbc(self) -> bool
         ensures { result ≡ is_msbc self }
     {
@@ -235,73 +190,74 @@ impl SbcParameters {
     pub fn channels(self) -> u8
         ensures { result ≡ channels self }
     {
-        let mode = self.channel_mode;
-        mode.channels()
+        self.channel_mode.channels()
     }
 
     // The largest bitpool that the channel mode and the subbands allow.
+    #[tactic(auto, unfolding(crate::specs::Parameters::maximum_bitpool))]
     pub fn maximum_bitpool(self) -> usize
         ensures { result ≡ maximum_bitpool self }
     {
-        let mode = self.channel_mode;
-        let subbands = wide(self.subbands);
-        if mode.is_separate() {
+        let subbands = usize::from(self.subbands);
+        if self.channel_mode.is_separate() {
             return 16 * subbands;
         }
         32 * subbands
     }
 
     // The number of join flags: one a subband, in joint stereo only.
+    #[tactic(auto, unfolding(crate::specs::Sizes::join_count))]
     pub fn join_count(self) -> usize
         ensures { (result ≡ join_count self) × (result ≤ 255) }
     {
-        let mode = self.channel_mode;
-        if mode.is_joint() {
-            return wide(self.subbands);
+        if self.channel_mode.is_joint() {
+            return usize::from(self.subbands);
         }
         0
     }
 
     // The bits of the quantized values of one block.
+    #[tactic(auto, unfolding(crate::specs::Sizes::block_bits))]
     pub fn block_bits(self) -> usize
         ensures { (result ≡ block_bits self) × (result ≤ 510) }
     {
-        let mode = self.channel_mode;
-        let channels = wide(mode.channels());
-        let bitpool = wide(self.bitpool);
-        if mode.is_separate() {
+        let channels = usize::from(self.channels());
+        let bitpool = usize::from(self.bitpool);
+        if self.channel_mode.is_separate() {
             return channels * bitpool;
         }
         bitpool
     }
 
     // The size of one frame in bytes.
+    #[tactic(auto, unfolding(crate::specs::Sizes::frame_length, crate::specs::Sizes::audio_bits))]
     pub fn frame_length(self) -> usize
         ensures { result ≡ frame_length self }
     {
-        let factors = product(self.subbands, self.channels());
-        let blocks = wide(self.blocks);
-        let audio = self.join_count() + blocks * self.block_bits();
+        let factors = usize::from(self.subbands) * usize::from(self.channels());
+        let audio = self.join_count() + usize::from(self.blocks) * self.block_bits();
         HEADER_SIZE + factors / 2 + (audio + 7) / 8
     }
 
     // The samples of one channel in a frame: blocks times subbands.
+    #[tactic(auto, unfolding(crate::specs::Sizes::samples_per_channel))]
     pub fn samples_per_channel(self) -> usize
         ensures { result ≡ samples_per_channel self }
     {
-        product(self.blocks, self.subbands)
+        usize::from(self.blocks) * usize::from(self.subbands)
     }
 
     // The samples of all channels in a frame.
+    #[tactic(auto, unfolding(crate::specs::Sizes::frame_samples, crate::specs::Sizes::samples_per_channel))]
     pub fn frame_samples(self) -> usize
         ensures { result ≡ frame_samples self }
     {
-        let samples = product(self.blocks, self.subbands);
-        let channels = wide(self.channels());
-        samples * channels
+        let samples = self.samples_per_channel();
+        samples * usize::from(self.channels())
     }
 
     // The index of the sample rate in the header.
+    #[tactic(auto, unfolding(crate::specs::Header::frequency_index, crate::specs::Parameters::sample_rates))]
     pub fn frequency_index(self) -> usize
         ensures { result ≡ frequency_index self }
     {
@@ -309,18 +265,24 @@ impl SbcParameters {
     }
 
     // The settings byte of the header.
+    #[tactic(auto, using(crate::proofs::Numbers::header_places), unfolding(crate::specs::Header::settings_byte, crate::specs::Parameters::block_counts, crate::specs::Parameters::subband_counts))]
     fn settings_byte(self) -> u8
         ensures { result ≡ settings_byte self }
     {
-        let mode = self.channel_mode;
-        let allocation = self.allocation;
         let rate = self.frequency_index();
-        let blocks = place_in(self.blocks as u32, &BLOCK_COUNTS);
-        let subbands = place_in(self.subbands as u32, &SUBBAND_COUNTS);
-        pack(rate, blocks, mode.number(), allocation.number(), subbands)
+        let blocks = place_in(u32::from(self.blocks), &BLOCK_COUNTS);
+        let subbands = place_in(u32::from(self.subbands), &SUBBAND_COUNTS);
+        pack(
+            rate,
+            blocks,
+            u8::from(self.channel_mode),
+            u8::from(self.allocation),
+            subbands,
+        )
     }
 
     // The first three bytes of a frame.
+    #[tactic(auto, unfolding(crate::specs::Header::header))]
     pub fn header(self) -> [u8; 3]
         ensures { result ≡ header self }
     {
@@ -331,9 +293,19 @@ impl SbcParameters {
     }
 
     // The bits of the join flags and scale factors, which the checksum covers behind the header.
+    #[tactic(auto, unfolding(crate::specs::Sizes::side_bits))]
     pub fn side_bits(self) -> usize
         ensures { result ≡ side_bits self }
     {
-        self.join_count() + 4 * product(self.subbands, self.channels())
+        self.join_count() + 4 * (usize::from(self.subbands) * usize::from(self.channels()))
+    }
+}
+
+impl Default for SbcParameters {
+    ghost is_default = { λ p. p ≡ high_quality };
+
+    #[tactic(auto, unfolding(crate::specs::Parameters::high_quality))]
+    fn default() -> SbcParameters {
+        SbcParameters::HIGH_QUALITY
     }
 }
