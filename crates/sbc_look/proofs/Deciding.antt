@@ -15,6 +15,7 @@ use Rattle.sbc_parameters.specs.Parameters.{accepted}
 use Rattle.sbc_parameters.specs.Sizes.{side_bits, frame_length, frame_samples}
 use Rattle.sbc_parameters.specs.Header.{parse}
 use Rattle.sbc_parameters.specs.declared.SbcParameters.{SbcParameters}
+use Rattle.sbc_parameters.proofs.Accepted.{frame-length-range}
 use Rattle.sbc_parameters.proofs.Parsing.{parsed-accepted}
 use Rattle.sbc_look.proofs.Answering.{none-plays, refusal-plays, plays-same}
 use Rattle.sbc_look.specs.Look.{Look, cut, bad, whole, look_parsed, look}
@@ -60,3 +61,13 @@ plays-fits finishing input room p =
     (λ n h. absurd (refusal-plays n p h))
     (λ q a e l r h.
     subst (λ (s : SbcParameters). (accepted s ≡ true) × (frame_length s ≤ length input) × (frame_samples s ≤ room)) (plays-same q p h) (a, l, r))
+
+-- ---- for the code
+
+pub ruleset parsing = (parsed-accepted)
+
+-- a frame of accepted parameters has a byte 3
+pub some-bytes : (p : SbcParameters) → accepted p ≡ true → 7 ≤ frame_length p
+some-bytes p a = (frame-length-range p a).0
+
+pub ruleset framing = (some-bytes)

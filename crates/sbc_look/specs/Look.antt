@@ -1,14 +1,14 @@
 -- Looking at input: the three-byte, header and length tests, and a yes or no on the checksum; no state, no output.
 -- From document 01, "Calls" and "Given back".
-use Rattle.std.specs.Prelude.{ℕ, Bool, List, eqb, ltb, length, get_or, take, if◌then◌else◌}
+use Rattle.std.specs.Prelude.{ℕ, Bool, List, eqb, ltb, length, get_or, take, if◌then◌else◌, Result, Ok, Err}
 use Rattle.laws.specs.Answers.{Told, gives, refuses}
 use Rattle.crc8.specs.Checksum.{checksum}
 use Rattle.codec.specs.Errors.{error_number}
+use Rattle.codec.specs.declared.Error.{Error}
 use Rattle.sbc_parameters.specs.Sizes.{side_bits, frame_length}
 use Rattle.sbc_parameters.specs.Header.{parse}
 use Rattle.sbc_parameters.specs.declared.SbcParameters.{SbcParameters}
-use Rattle.sbc_look.specs.declared.Front.{Front}
-use Rattle.sbc_look.specs.declared.Front.TheVariants.{Cut, Bad, Whole}
+use Rattle.sbc_look.specs.declared.WholeFrame.{WholeFrame}
 
 -- what stands in front of the input
 pub data Look : Type 0 where
@@ -30,8 +30,7 @@ look_parsed input (gives p) =
 unfoldable pub look : List ℕ → Look
 look input = look_parsed input (parse input)
 
--- what the code finds, in these terms
-unfoldable pub told_front : Front → Look
-told_front Cut = cut
-told_front (Bad e) = bad (error_number e)
-told_front (Whole frame) = whole frame.parameters frame.good
+-- what the code finds, in these terms: of what it gives, the parameters and the yes or no; Incomplete is cut
+abbrev pub told_look : Result WholeFrame Error → Look
+told_look (Ok frame) = whole frame.accepted.set frame.good
+told_look (Err e) = if eqb (error_number e) 1 then cut else bad (error_number e)

@@ -1,12 +1,12 @@
 -- What a decode call does with what stands in front of its input, by the tests in document 01's order: 3 bytes, header, length, output, checksum.
 -- From document 01, "Given back".
-use Rattle.std.specs.Prelude.{ℕ, Bool, ◌&&◌, not, List, eqb, ltb, length, if◌then◌else◌}
+use Rattle.std.specs.Prelude.{ℕ, Bool, ◌&&◌, not, List, eqb, ltb, length, if◌then◌else◌, Option, None, Some, Result, Ok, Err}
 use Rattle.codec.specs.Errors.{error_number}
+use Rattle.codec.specs.declared.Error.{Error}
 use Rattle.sbc_parameters.specs.Sizes.{frame_samples}
 use Rattle.sbc_parameters.specs.declared.SbcParameters.{SbcParameters}
+use Rattle.sbc_parameters.specs.declared.accepted_set.AcceptedSet.{AcceptedSet}
 use Rattle.sbc_look.specs.Look.{Look, cut, bad, whole, look}
-use Rattle.sbc_look.specs.declared.Next.{Next}
-use Rattle.sbc_look.specs.declared.Next.TheVariants.{NoFrame, Refusal, Plays}
 
 pub data Decision : Type 0 where
   -- no whole frame, and no refusal
@@ -35,7 +35,7 @@ unfoldable pub next : Bool → List ℕ → ℕ → Decision
 next finishing input room = next_at (look input) finishing (length input) room
 
 -- what the code decides, in these terms
-unfoldable pub told_next : Next → Decision
-told_next NoFrame = no_frame
-told_next (Refusal e) = refusal (error_number e)
-told_next (Plays p) = plays p
+abbrev pub told_next : Result (Option AcceptedSet) Error → Decision
+told_next (Ok None) = no_frame
+told_next (Ok (Some accepted)) = plays accepted.set
+told_next (Err e) = refusal (error_number e)

@@ -2,113 +2,85 @@
 // No state, no output.
 #![tactic(auto)]
 
-ghost use Rattle.std.specs.Prelude.{◌≡◌, true, eqb, length};
+ghost use Rattle.std.specs.Prelude.{◌≡◌, length};
 ghost use Rattle.laws.specs.Answers.{gives};
-ghost use Rattle.sbc_parameters.specs.Parameters.{accepted};
-ghost use Rattle.sbc_look.specs.Look.{look_parsed, look, told_front};
+ghost use Rattle.sbc_look.specs.Look.{look_parsed, look, told_look};
 ghost use Rattle.sbc_look.specs.Next.{next_short, next_whole, next, told_next};
 
 use codec::Error;
-use sbc_parameters::{Parsed, SbcParameters};
+use sbc_parameters::{AcceptedSet, SbcParameters};
 
 // A whole frame in front of the input, and whether its byte 3 holds its checksum.
 #[derive(Clone, Copy)]
 pub struct WholeFrame {
-    pub parameters: SbcParameters,
+    pub accepted: AcceptedSet,
     pub good: bool,
 }
 
-// What stands in front of the input.
-#[derive(Clone, Copy)]
-pub enum Front {
-    // Under 3 bytes, or under one frame.
-    Cut,
-    Bad(Error),
-    Whole(WholeFrame),
-}
-
-// What a decode call does next: nothing, a refusal, or it plays a frame with these parameters.
-#[derive(Clone, Copy)]
-pub enum Next {
-    NoFrame,
-    Refusal(Error),
-    Plays(SbcParameters),
-}
-
-// What stands in front of the input.
-pub fn look(input: &[u8]) -> Front
-    ensures { told_front result ≡ look input.now }
+// What stands in front of the input: a whole frame, or why there is none; Incomplete under 3 bytes, and under one frame.
+#[tactic(auto, using(crate::proofs::Deciding::parsing), unfolding(crate::specs::Look::look, crate::specs::Look::look_parsed))]
+pub fn look(input: &[u8]) -> Result<WholeFrame, Error>
+    ensures { told_look result ≡ look input.now }
 {
-    let parsed = SbcParameters::parse(input);
-    match parsed {
-        Parsed::Parameters(parameters) => look_parsed(parameters, input),
-        Parsed::Refused(error) => {
-            if error.number() == 1 {
-                return Front::Cut;
-            }
-            Front::Bad(error)
-        }
-    }
+    let set = SbcParameters::parse(input)?;
+    look_parsed(AcceptedSet { set }, input)
 }
 
 // The length and the checksum of a frame with these parameters.
-fn look_parsed(parameters: SbcParameters, input: &[u8]) -> Front
-    requires { accepted parameters ≡ true }
-    ensures { told_front result ≡ look_parsed input.now (gives parameters) }
+#[tactic(auto, using(crate::proofs::Deciding::framing), unfolding(crate::specs::Look::look_parsed))]
+fn look_parsed(accepted: AcceptedSet, input: &[u8]) -> Result<WholeFrame, Error>
+    ensures { told_look result ≡ look_parsed input.now (gives accepted.set) }
 {
-    let length = parameters.frame_length();
+    let set = accepted.set;
+    let length = set.frame_length();
     if input.len() < length {
-        return Front::Cut;
+        return Err(Error::Incomplete);
     }
-    let checksum = crc8::checksum(&input[..length], parameters.side_bits());
-    Front::Whole(WholeFrame {
-        parameters,
-        good: is_checksum(checksum, input[3]),
+    let checksum = crc8::checksum(&input[..length], set.side_bits());
+    Ok(WholeFrame {
+        accepted,
+        good: checksum == input[3],
     })
 }
 
-// Whether a byte is the checksum.
-fn is_checksum(checksum: u8, byte: u8) -> bool
-    ensures { result ≡ eqb checksum byte }
-{
-    checksum == byte
-}
-
-// What a decode call does next, with room for so many samples: 3 bytes, header, length, output, checksum, in this order.
-pub fn decide(input: &[u8], room: usize, finishing: bool) -> Next
+// What a decode call does next, with room for so many samples: 3 bytes, header, length, output, checksum, in this order. It plays a frame with the
+// parameters that are given, or, where there are none, nothing.
+#[tactic(auto, unfolding(crate::specs::Next::next, crate::specs::Next::next_at))]
+pub fn decide(input: &[u8], room: usize, finishing: bool) -> Result<Option<AcceptedSet>, Error>
     ensures { told_next result ≡ next finishing input.now room }
 {
-    let front = look(input);
-    match front {
-        Front::Cut => decide_short(input.len(), finishing),
-        Front::Bad(error) => Next::Refusal(error),
-        Front::Whole(frame) => decide_whole(frame, room),
+    match look(input) {
+        Ok(frame) => decide_whole(frame, room),
+        Err(Error::Incomplete) => decide_short(input.len(), finishing),
+        Err(error) => Err(error),
     }
 }
 
 // Of input that ends before its frame: Incomplete with finishing on and some input, else no frame.
-fn decide_short(size: usize, finishing: bool) -> Next
+#[tactic(auto, unfolding(crate::specs::Next::next_short))]
+fn decide_short(size: usize, finishing: bool) -> Result<Option<AcceptedSet>, Error>
     ensures { told_next result ≡ next_short finishing size }
 {
     if size == 0 {
-        return Next::NoFrame;
+        return Ok(None);
     }
     if finishing {
-        return Next::Refusal(Error::Incomplete);
+        return Err(Error::Incomplete);
     }
-    Next::NoFrame
+    Ok(None)
 }
 
 // Of a whole frame.
-fn decide_whole(frame: WholeFrame, room: usize) -> Next
-    ensures { told_next result ≡ next_whole frame.parameters frame.good room }
+#[tactic(auto, unfolding(crate::specs::Next::next_whole))]
+fn decide_whole(frame: WholeFrame, room: usize) -> Result<Option<AcceptedSet>, Error>
+    ensures { told_next result ≡ next_whole frame.accepted.set frame.good room }
 {
-    let parameters = frame.parameters;
-    if room < parameters.frame_samples() {
-        return Next::Refusal(Error::BufferTooSmall);
+    let accepted = frame.accepted;
+    if room < accepted.set.frame_samples() {
+        return Err(Error::BufferTooSmall);
     }
-    if frame.good {
-        return Next::Plays(parameters);
+    if !frame.good {
+        return Err(Error::InvalidData);
     }
-    Next::Refusal(Error::InvalidData)
+    Ok(Some(accepted))
 }

@@ -2,19 +2,23 @@
 -- Assumes nothing.
 use Prim.Native.Nat.{ℕ, zero, suc, ◌*◌, ◌≤◌, ◌<◌}
 use mathlib.Core.Path.{◌≡◌, refl}
-use mathlib.Core.Bool.{Bool, true, false}
+use mathlib.Core.Bool.{Bool, true, false, ◌&&◌}
+use mathlib.Core.HLevel.{is_prop→PathP}
+use mathlib.Core.List.{[], ◌∷◌}
+use Rattle.std.proofs.Math.Bool.{Bool-set}
 use native.Mathlib.Omega.{arith}
 use native.Mathlib.Nat.{mul-le-mul, le_refl}
-use lib.Dec.{lit<, lit≤}
+use lib.Dec.{lit<, lit≤, leb, ltb}
 use lib.ListN.{get_or}
 use borrow.Author.Tests.{eqb-true, leb-true, ltb-true, lt-leb}
 use Rattle.laws.specs.Lists.{all_of, index_of, listed}
-use Rattle.laws.proofs.Tests.{all_true, all-false, listed-cases}
+use Rattle.laws.proofs.Tests.{all_true, all-false, and-true, listed-cases}
 use Rattle.sbc_modes.proofs.Numbers.{mono, loudness, channels-of-range}
 use Rattle.sbc_parameters.specs.Parameters.{channels, sample_rates, block_counts, subband_counts, maximum_bitpool, is_msbc, msbc, msbc_tests, field_tests, accepted}
 use Rattle.sbc_parameters.specs.Sizes.{join_count, block_bits, audio_bits, frame_length, samples_per_channel, frame_samples}
 use Rattle.sbc_parameters.specs.Sizes.{largest_set, maximum_frame_length, maximum_frame_samples, LargestFrame}
 use Rattle.sbc_parameters.specs.declared.SbcParameters.{SbcParameters}
+use Rattle.sbc_parameters.specs.declared.accepted_set.AcceptedSet.{AcceptedSet}
 use Rattle.sbc_modes.specs.declared.SbcChannelMode.{SbcChannelMode}
 use Rattle.sbc_modes.specs.declared.SbcChannelMode.TheVariants.{Mono, DualChannel, Stereo, JointStereo}
 
@@ -192,3 +196,20 @@ largest-frame =
 pub low_bitpool : (p : SbcParameters) → p.bitpool < 2 → all_of (field_tests p) ≡ false
 unfolding field_tests
 low_bitpool p h = all-false (field_tests p) 3 (lt-leb 2 p.bitpool h)
+
+-- ---- a set that is known to be accepted is determined by the set
+pub set-determines : (a b : AcceptedSet) → a.set ≡ b.set → a ≡ b
+set-determines a b e =
+    λ i. record {
+      set = e i;
+      is_accepted = is_prop→PathP (λ j. accepted (e j) ≡ true) (λ j. Bool-set (accepted (e j)) true) a.is_accepted b.is_accepted i;
+    }
+
+-- ---- the tests of the fields, one behind the other
+pub listed-fields : (p : SbcParameters) → all_of (field_tests p)
+    ≡ (listed p.sample_rate (16000 ∷ 32000 ∷ 44100 ∷ 48000 ∷ []) && (listed p.blocks (4 ∷ 8 ∷ 12 ∷ 16 ∷ []) && (listed p.subbands (4 ∷ 8 ∷ [])
+    && (leb 2 p.bitpool && (leb p.bitpool (maximum_bitpool p) && ltb p.bitpool 256)))))
+unfolding all_of field_tests sample_rates block_counts subband_counts
+listed-fields p = rw and-true
+
+pub ruleset listing = (listed-fields)

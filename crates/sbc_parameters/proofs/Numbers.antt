@@ -2,6 +2,7 @@
 -- Assumes nothing.
 use Prim.Native.Nat.{ℕ, zero, suc, ◌+◌, ◌*◌, ◌<◌}
 use mathlib.Core.Path.{◌≡◌, refl}
+use mathlib.Core.List.{[], ◌∷◌}
 use native.Mathlib.Omega.{arith}
 use lib.Dec.{lit<}
 use lib.ListN.{get_or}
@@ -27,7 +28,19 @@ subbands-at zero h = refl
 subbands-at (suc zero) h = refl
 subbands-at (suc (suc n)) h = absurd (omega arith)
 
-pub ruleset listed_at = (blocks_at, subbands-at)
+pub rates-are : sample_rates ≡ 16000 ∷ 32000 ∷ 44100 ∷ 48000 ∷ []
+unfolding sample_rates
+rates-are = refl
+
+pub blocks-are : block_counts ≡ 4 ∷ 8 ∷ 12 ∷ 16 ∷ []
+unfolding block_counts
+blocks-are = refl
+
+pub subbands-are : subband_counts ≡ 4 ∷ 8 ∷ []
+unfolding subband_counts
+subbands-are = refl
+
+pub ruleset listed_at = (rates-are, blocks_at, subbands-at)
 
 -- ---- the places of values are indexes of their lists
 pub frequency-lt : (p : SbcParameters) → frequency_index p < 4
@@ -42,4 +55,4 @@ pub subbands-lt : (x : ℕ) → place_in x subband_counts < 2
 unfolding subband_counts
 subbands-lt x = place-lt x subband_counts (lit< tt)
 
-pub ruleset header_places = (frequency-lt, blocks-lt, subbands-lt, mode-lt, allocation-lt)
+pub ruleset header_places = (blocks-are, subbands-are, frequency-lt, blocks-lt, subbands-lt, mode-lt, allocation-lt)

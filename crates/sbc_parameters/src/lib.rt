@@ -66,7 +66,7 @@ pub struct SbcParameters {
 }
 
 // The parameters that a header's settings byte and bitpool say.
-#[tactic(auto, using(crate::proofs::Numbers::listed_at), unfolding(crate::specs::Header::from_settings, crate::specs::Parameters::sample_rates))]
+#[tactic(auto, using(crate::proofs::Numbers::listed_at), unfolding(crate::specs::Header::from_settings))]
 fn from_settings(settings: u8, bitpool: u8) -> SbcParameters
     ensures { result ≡ from_settings settings bitpool }
 {
@@ -167,7 +167,7 @@ impl SbcParameters {
     }
 
     // Whether each field has a value that a header can say.
-    #[tactic(auto, unfolding(crate::specs::Parameters::field_tests, crate::specs::Parameters::sample_rates, crate::specs::Parameters::block_counts, crate::specs::Parameters::subband_counts, laws::specs::Lists::all_of))]
+    #[tactic(auto, using(crate::proofs::Accepted::listing))]
     fn has_listed_fields(self) -> bool
         ensures { result ≡ all_of (field_tests self) }
     {
@@ -265,7 +265,7 @@ impl SbcParameters {
     }
 
     // The settings byte of the header.
-    #[tactic(auto, using(crate::proofs::Numbers::header_places), unfolding(crate::specs::Header::settings_byte, crate::specs::Parameters::block_counts, crate::specs::Parameters::subband_counts))]
+    #[tactic(auto, using(crate::proofs::Numbers::header_places), unfolding(crate::specs::Header::settings_byte))]
     fn settings_byte(self) -> u8
         ensures { result ≡ settings_byte self }
     {

@@ -1,3 +1,2 @@
--- Laws of where a seek resumes. For other crates: `Seeking`, of the definition, and `Answering`, of what the code answers.
+-- Laws of where a seek resumes.
 pub mod Seeking
-pub mod Answering

@@ -66,9 +66,26 @@ module _ (p : SbcParameters) (position : ℕ) where
   unfolding request_in
   request-inside a h = rw (a, lt-ltb (seek_offset p position) (2 ^ 64) h)
 
+pub skip-small : (p : SbcParameters) (position : ℕ) → accepted p ≡ true → position - seek_frame p position * samples_per_channel p < 200
+unfolding seek_skip
+skip-small p position a = seek-skip-lt p position a
+
+pub ruleset requesting = (seek-frame-le, skip-small, request-over, request-inside)
+
+pub ruleset unaccepted = (request-unaccepted)
+
+-- an accepted set has subbands and blocks to divide by
+pub subbands-some : (p : SbcParameters) → accepted p ≡ true → 4 ≤ p.subbands
+subbands-some p a = (ranges p a).subbands-low
+
+pub blocks-some : (p : SbcParameters) → accepted p ≡ true → 4 ≤ p.blocks
+blocks-some p a = (ranges p a).blocks-low
+
+pub ruleset dividing = (subbands-some, blocks-some)
+
 -- with nothing decoded yet, nothing is skipped
 pub first-skips-none : (position : ℕ) (request : SeekRequest) → first_request position ≡ gives request → request.skip_frames ≡ 0
-unfolding first_request request_of
+unfolding first_request
 first-skips-none position request =
     by-test (λ (answer : Told SeekRequest). answer ≡ gives request → request.skip_frames ≡ 0) (eqb position 0) (gives (request_of 0 0)) (refuses 1)
     (λ _ h. ap (λ (r : SeekRequest). r.skip_frames) (sym (gives_same (request_of 0 0) request h)))

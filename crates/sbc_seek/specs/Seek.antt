@@ -1,16 +1,11 @@
 -- Where decoding resumes for a position, under the parameters of the last accepted frame. Positions and the skip count samples of one channel.
 -- From document 01, "Calls" and "Given back".
-use Rattle.std.specs.Prelude.{ℕ, ◌-◌, ◌*◌, ◌/◌, ◌^◌, ◌&&◌, eqb, ltb, if◌then◌else◌}
+use Rattle.std.specs.Prelude.{ℕ, ◌-◌, ◌*◌, ◌/◌, ◌^◌, ◌&&◌, eqb, ltb, if◌then◌else◌, Option, None, Some}
 use Rattle.laws.specs.Answers.{Told, gives, refuses}
-use Rattle.codec.specs.Errors.{error_number}
 use Rattle.sbc_parameters.specs.Parameters.{accepted}
 use Rattle.sbc_parameters.specs.Sizes.{samples_per_channel, frame_length}
 use Rattle.sbc_parameters.specs.declared.SbcParameters.{SbcParameters}
-use Rattle.sbc_seek.specs.declared.LastParameters.{LastParameters}
-use Rattle.sbc_seek.specs.declared.LastParameters.TheVariants.{None, Some}
 use Rattle.sbc_seek.specs.declared.SeekRequest.{SeekRequest}
-use Rattle.sbc_seek.specs.declared.SeekOutcome.{SeekOutcome}
-use Rattle.sbc_seek.specs.declared.SeekOutcome.TheVariants.{At, Refused}
 
 -- ---- in a stream of frames with these parameters
 
@@ -28,7 +23,7 @@ seek_skip p position = position - seek_frame p position * samples_per_channel p
 
 -- ---- what a seek answers: the byte offset and the positions left to skip, or the number of its refusal
 
-unfoldable pub request_of : ℕ → ℕ → SeekRequest
+abbrev pub request_of : ℕ → ℕ → SeekRequest
 request_of offset skip = record { byte_offset = offset; skip_frames = skip }
 
 -- byte offset over u64: InvalidParameter; so too with parameters that are not accepted, which no frame has
@@ -41,11 +36,6 @@ unfoldable pub first_request : ℕ → Told SeekRequest
 first_request position = if eqb position 0 then gives (request_of 0 0) else refuses 1
 
 -- by whether a frame was accepted yet
-unfoldable pub seek_request : LastParameters → ℕ → Told SeekRequest
+unfoldable pub seek_request : Option SbcParameters → ℕ → Told SeekRequest
 seek_request None position = first_request position
 seek_request (Some p) position = request_in p position
-
--- what the code answers, in these terms
-unfoldable pub told_seek : SeekOutcome → Told SeekRequest
-told_seek (At request) = gives request
-told_seek (Refused e) = refuses (error_number e)
