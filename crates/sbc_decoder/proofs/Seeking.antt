@@ -5,8 +5,8 @@ use mathlib.Core.Path.{◌≡◌, refl}
 use mathlib.Core.Bool.{false}
 use Rattle.laws.specs.Answers.{gives, refuses}
 use Rattle.sbc_seek.specs.Seek.{seek_request}
-use Rattle.sbc_seek.specs.declared.LastParameters.{LastParameters}
-use Rattle.sbc_seek.specs.declared.LastParameters.TheVariants.{None, Some}
+use Rattle.std.specs.Prelude.{Option, None, Some}
+use Rattle.sbc_parameters.specs.declared.SbcParameters.{SbcParameters}
 use Rattle.sbc_seek.specs.declared.SeekRequest.{SeekRequest}
 use Rattle.sbc_seek.proofs.Seeking.{first-skips-none}
 use Rattle.sbc_decoder.specs.Decode.{cleared, new_decoder, with_synthesis, with_finishing, with_skip}
@@ -14,7 +14,7 @@ use Rattle.sbc_decoder.specs.Seek.{reset, resumed, sought_decoder, seek_answered
 use Rattle.sbc_decoder.specs.declared.SbcDecoder.{SbcDecoder}
 
 -- a decoder that is resumed is the one sought: with nothing decoded yet nothing is skipped, and it is as created
-resumed-sought : (last : LastParameters) (d : SbcDecoder) (position : ℕ) (request : SeekRequest) → d.parameters ≡ last
+resumed-sought : (last : Option SbcParameters) (d : SbcDecoder) (position : ℕ) (request : SeekRequest) → d.parameters ≡ last
     → seek_request last position ≡ gives request → resumed request.skip_frames d ≡ sought_decoder last request d
 unfolding seek_request sought_decoder reset resumed new_decoder with_synthesis with_finishing with_skip
 resumed-sought None d position request none h =
@@ -34,3 +34,13 @@ module _ (d : SbcDecoder) (position : ℕ) where
   pub seek-turned-away : (n : ℕ) → seek_request d.parameters position ≡ refuses n → seek d position ≡ record { answer = refuses n; decoder = d }
   unfolding seek seek_answered
   seek-turned-away n h = rw h
+
+pub ruleset seeking = (seek-given, seek-turned-away)
+
+-- each field of a decoder that is resumed
+pub resumed-is : (skip : ℕ) (d : SbcDecoder)
+    → resumed skip d ≡ record { parameters = d.parameters; synthesis = cleared; finishing = false; skip = skip }
+unfolding resumed with_synthesis with_finishing with_skip
+resumed-is skip d = refl
+
+pub ruleset resuming = (resumed-is)

@@ -8,7 +8,7 @@ use native.Mathlib.Nat.{add-zero, add-suc, mul-le-mul_right}
 use native.Mathlib.Omega.{arith}
 use lib.IntN.{ℤ}
 use lib.ListN.{length, take, drop, length-append, length-take, length-drop}
-use lib.Seq.{take_at, drop_at, drop-drop, drop-append-add}
+use lib.Seq.{length-take-le, take_at, drop_at, drop-drop, drop-append-add}
 use Rattle.std.specs.Prelude.{if◌then◌else◌}
 use Rattle.sbc_parameters.specs.Parameters.{channels, accepted}
 use Rattle.sbc_parameters.specs.Sizes.{frame_length, frame_samples}
@@ -20,8 +20,8 @@ use Rattle.sbc_frame.specs.Decoding.{decode_fields}
 use Rattle.sbc_frame.proofs.Coding.{length-decoded}
 use Rattle.codec.specs.Answers.{progress_of, add_progress}
 use Rattle.sbc_look.specs.Look.{whole, look_parsed, look}
-use Rattle.sbc_look.specs.Next.{Decision, no_frame, refusal, next_short, next_at, next}
-use Rattle.sbc_look.proofs.Deciding.{next-cases}
+use Rattle.sbc_look.specs.Next.{Decision, no_frame, refusal, plays, next_short, next_at, next}
+use Rattle.sbc_look.proofs.Deciding.{next-cases, plays-fits}
 use Rattle.sbc_decoder.specs.Decode.{start_histories, dropped, next_output, Step, none_whole, refused, Turn, play, unchanged, turn_by, decode_next, Turns, after_step, decode_turns, decode_all, decode}
 use Rattle.codec.specs.declared.Progress.{Progress}
 use Rattle.sbc_decoder.specs.declared.SbcDecoder.{SbcDecoder}
@@ -46,13 +46,38 @@ pub turn-cases : (P : Turn → Type 0) (d : SbcDecoder) (input : List ℕ) (outp
     → ((p : SbcParameters) → accepted p ≡ true → look input ≡ whole p true → frame_length p ≤ length input → frame_samples p ≤ length output
     → P (play p d (unpack p (take (frame_length p) input)) output))
     → P (decode_next d input output)
-turn-cases P d input output none refuse plays = turn-pairs (λ t _. P t) d input output output refl none refuse plays
+turn-cases P d input output none refuse played = turn-pairs (λ t _. P t) d input output output refl none refuse played
 
 -- a turn does what is to be done
 pub turn-does : (d : SbcDecoder) (input : List ℕ) (output : List ℤ) (x : Decision) → next d.finishing input (length output) ≡ x
     → decode_next d input output ≡ turn_by x d input output
 unfolding decode_next
 turn-does d input output x e = ap (λ y. turn_by y d input output) e
+
+module _ (d : SbcDecoder) (input : List ℕ) (output : List ℤ) where
+  pub turn-none : next d.finishing input (length output) ≡ no_frame
+      → decode_next d input output ≡ record { step = none_whole; decoder = d; output = output }
+  unfolding turn_by unchanged
+  turn-none e = turn-does d input output no_frame e
+
+  pub turn-refused : (n : ℕ) → next d.finishing input (length output) ≡ refusal n
+      → decode_next d input output ≡ record { step = refused n; decoder = d; output = output }
+  unfolding turn_by unchanged
+  turn-refused n e = turn-does d input output (refusal n) e
+
+  pub turn-plays : (p : SbcParameters) → next d.finishing input (length output) ≡ plays p
+      → decode_next d input output ≡ play p d (unpack p (take (frame_length p) input)) output
+  unfolding turn_by
+  turn-plays p e = turn-does d input output (plays p) e
+
+  -- so the frame is in the input, and its samples fit the output
+  pub frame-inside : (p : SbcParameters) → next d.finishing input (length output) ≡ plays p → frame_length p ≤ length input
+  frame-inside p e = (plays-fits d.finishing input (length output) p e).1
+
+  pub samples-inside : (p : SbcParameters) → next d.finishing input (length output) ≡ plays p → frame_samples p ≤ length output
+  samples-inside p e = (plays-fits d.finishing input (length output) p e).2
+
+pub ruleset deciding = (turn-none, turn-refused, turn-plays, frame-inside, samples-inside, length-take-le)
 
 -- ---- what a played frame leaves
 

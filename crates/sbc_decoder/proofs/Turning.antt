@@ -1,7 +1,7 @@
 -- The decode loop: its invariant holds at the start and after each frame that is taken, and where a turn takes none it gives the whole call.
 -- Assumes nothing.
-use Prim.Native.Nat.{ℕ, ◌+◌, ◌≤◌, ◌<◌}
-use mathlib.Core.Path.{◌≡◌, refl, sym, ap, ap₂, ◌∙◌}
+use Prim.Native.Nat.{ℕ, ◌+◌, ◌-◌, ◌≤◌, ◌<◌}
+use mathlib.Core.Path.{◌≡◌, refl, sym, ap, ap₂, subst₂, ◌∙◌}
 use mathlib.Core.List.{List, ◌++◌, append_assoc}
 use native.Mathlib.Nat.{add-zero, add_assoc, zero-add}
 use native.Mathlib.Omega.{arith}
@@ -10,8 +10,15 @@ use lib.ListN.{length, take, drop, length-append, length-drop}
 use lib.Seq.{length-take-le, take-append-add, drop-drop}
 use Rattle.sbc_parameters.specs.Sizes.{frame_length}
 use Rattle.sbc_frame.specs.Layout.{unpack}
-use Rattle.codec.specs.Answers.{progress_of, add_progress}
-use Rattle.sbc_decoder.specs.Decode.{Step, none_whole, refused, taken, Turn, play, unchanged, decode_next, Turns, after_step, decode_all, answer_of, decode}
+use borrow.Rule.Slice.PartMut.{put_mid}
+use Rattle.std.specs.Prelude.{Option, None, Some, Result, Ok, Err}
+use Rattle.laws.specs.Answers.{gives}
+use Rattle.laws.proofs.Parts.{tail-part, put-tail}
+use Rattle.codec.specs.Errors.{error_number}
+use Rattle.codec.specs.Answers.{progress_of, add_progress, refused_after}
+use Rattle.codec.specs.declared.Error.{Error}
+use Rattle.sbc_decoder.specs.Decode.{Step, none_whole, refused, taken, Turn, play, unchanged, decode_next, Turns, after_step, decode_all, answer_of, Decoded, decode}
+use Rattle.sbc_decoder.specs.Told.{told_step, told_turn}
 use Rattle.codec.specs.declared.Progress.{Progress}
 use Rattle.sbc_decoder.specs.declared.SbcDecoder.{SbcDecoder}
 use Rattle.sbc_decoder.proofs.Taking.{turn-cases, kept, length-next, more, drop-both, length_some, decode-unrolled}
@@ -148,3 +155,54 @@ module _ {d₀ : SbcDecoder} {input : List ℕ} {output₀ : List ℤ} {d : SbcD
         → record { answer = answer_of (progress_of cs ps) (refused n); decoder = found.decoder; output = back } ≡ decode d₀ input output₀
     unfolding after_step
     stops-refused n e = stops (refused n) (from-here (refused n) e)
+
+-- ---- what the code of a turn gives back, on the tails of the input and of the output, which then comes back
+
+module _ {d₀ : SbcDecoder} {input : List ℕ} {output₀ : List ℤ} {d : SbcDecoder} {output : List ℤ} {cs ps : ℕ} (t : Turning d₀ input output₀ d output cs ps)
+    (r : Result (Option Progress) Error) (next : SbcDecoder) (part : List ℤ)
+    (h : told_turn r next part ≡ decode_next d (take (length input - cs) (drop cs input)) (take (length output - ps) (drop ps output)))
+  where
+    -- the output once its tail came back
+    abbrev pub returned : List ℤ
+    returned = put_mid ps (length output - ps) output part
+
+    finds : told_turn r next part ≡ found t
+    finds = h ∙ ap₂ (decode_next d) (tail-part cs input) (tail-part ps output)
+
+    decoder-is : next ≡ (found t).decoder
+    decoder-is = ap (λ x. x.decoder) finds
+
+    output-is : returned ≡ back t
+    output-is = put-tail ps output part t.written ∙ ap (λ x. take ps output ++ x.output) finds
+
+    step-is : (s : Step) → told_step r ≡ s → (found t).step ≡ s
+    step-is s e = sym (ap (λ x. x.step) finds) ∙ e
+
+    -- it is as long as it was
+    pub length-returned : length returned ≡ length output₀
+    length-returned = ap length output-is ∙ length_back t ∙ t.same_length
+
+    -- a frame was taken, of some bytes
+    pub takes : (one : Progress) → r ≡ Ok (Some one) → Turning d₀ input output₀ next returned (cs + one.consumed) (ps + one.produced)
+    takes one e =
+        subst₂ (λ d output. Turning d₀ input output₀ d output (cs + one.consumed) (ps + one.produced)) (sym decoder-is) (sym output-is)
+        (turn t one (step-is (taken one) (ap told_step e)))
+
+    pub takes-some : (one : Progress) → r ≡ Ok (Some one) → 0 < one.consumed
+    takes-some one e = (turn-takes d (drop cs input) (drop ps output) one (step-is (taken one) (ap told_step e))).0
+
+    -- none is whole
+    pub ends : r ≡ Ok None → record { answer = gives (progress_of cs ps); decoder = next; output = returned } ≡ decode d₀ input output₀
+    unfolding answer_of
+    ends e =
+        ap₂ {C = Decoded} (λ d output. record { answer = gives (progress_of cs ps); decoder = d; output = output }) decoder-is output-is
+        ∙ stops-none t (step-is none_whole (ap told_step e))
+
+    -- one is refused
+    pub fails : (e : Error) → r ≡ Err e
+        → record { answer = refused_after (progress_of cs ps) (error_number e); decoder = next; output = returned } ≡ decode d₀ input output₀
+    unfolding answer_of
+    fails e q =
+        ap₂ {C = Decoded} (λ d output. record { answer = refused_after (progress_of cs ps) (error_number e); decoder = d; output = output })
+        decoder-is output-is
+        ∙ stops-refused t (error_number e) (step-is (refused (error_number e)) (ap told_step q))

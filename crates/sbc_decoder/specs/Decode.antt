@@ -1,6 +1,6 @@
 -- The decoder and its call: from the decoder, the bytes and the output at entry to the answer, the next decoder and the output at exit.
 -- From document 01, "Calls" and "Given back".
-use Rattle.std.specs.Prelude.{ℕ, zero, suc, ◌+◌, ◌-◌, ◌*◌, min, max, Bool, true, false, List, ◌++◌, eqb, ℤ, length, take, drop, replicate, if◌then◌else◌}
+use Rattle.std.specs.Prelude.{ℕ, zero, suc, ◌+◌, ◌-◌, ◌*◌, min, max, Bool, true, false, List, ◌++◌, eqb, ℤ, length, take, drop, replicate, if◌then◌else◌, Option, None, Some}
 use Rattle.laws.specs.Answers.{Told, gives}
 use Rattle.sbc_parameters.specs.Parameters.{channels}
 use Rattle.sbc_parameters.specs.Sizes.{frame_length, samples_per_channel, frame_samples}
@@ -14,8 +14,6 @@ use Rattle.codec.specs.Answers.{progress_of, add_progress, refused_after}
 use Rattle.codec.specs.declared.Progress.{Progress}
 use Rattle.sbc_look.specs.Look.{Look, cut, bad, whole, look}
 use Rattle.sbc_look.specs.Next.{Decision, no_frame, refusal, plays, next}
-use Rattle.sbc_seek.specs.declared.LastParameters.{LastParameters}
-use Rattle.sbc_seek.specs.declared.LastParameters.TheVariants.{None, Some}
 use Rattle.sbc_decoder.specs.declared.SbcDecoder.{SbcDecoder}
 
 -- ---- the decoder, and its fields set one by one
@@ -28,7 +26,7 @@ cleared = replicate 2 no_synthesis
 unfoldable pub new_decoder : SbcDecoder
 new_decoder = record { parameters = None; synthesis = cleared; finishing = false; skip = 0 }
 
-unfoldable pub with_parameters : LastParameters → SbcDecoder → SbcDecoder
+unfoldable pub with_parameters : Option SbcParameters → SbcDecoder → SbcDecoder
 with_parameters p d = record { parameters = p; synthesis = d.synthesis; finishing = d.finishing; skip = d.skip }
 
 unfoldable pub with_synthesis : List Synthesis → SbcDecoder → SbcDecoder
@@ -47,7 +45,7 @@ finish d = with_finishing true d
 -- ---- playing a frame
 
 -- a frame's subbands are those of the last accepted frame
-unfoldable pub same_subbands : SbcParameters → LastParameters → Bool
+unfoldable pub same_subbands : SbcParameters → Option SbcParameters → Bool
 same_subbands p None = false
 same_subbands p (Some q) = eqb q.subbands p.subbands
 
