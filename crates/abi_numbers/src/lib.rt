@@ -5,17 +5,17 @@
 ghost use Rattle.std.specs.Prelude.{◌≡◌};
 ghost use Rattle.sbc_parameters.specs.Header.{parse};
 ghost use Rattle.sbc_parameters.specs.Sizes.{frame_length, frame_samples};
-ghost use Rattle.codec.specs.Answers.{told_coded};
+ghost use Rattle.codec.specs.Answers.{told};
 ghost use Rattle.abi_numbers.specs.Numbers.{is_set, parameters_in, numbers_of, no_numbers, is_accepted, size_in};
 ghost use Rattle.abi_numbers.specs.Numbers.{parsed_numbers, coded_numbers};
 
-use codec::Coded;
+use codec::{Error, Progress};
 use sbc_modes::{SbcAllocation, SbcChannelMode};
-use sbc_parameters::{Parsed, SbcParameters, Validated};
+use sbc_parameters::SbcParameters;
 
 // The parameters of a stream: the mode and the allocation by their numbers in the header.
 #[repr(C)]
-#[derive(Clone, Copy)]
+#[derive(Clone, Copy, Debug, PartialEq, Eq)]
 pub struct ParameterNumbers {
     pub sample_rate: u32,
     // 0 mono, 1 dual channel, 2 stereo, 3 joint stereo.
@@ -29,7 +29,7 @@ pub struct ParameterNumbers {
 
 // What a decode or encode call gives back: 0 and how much was consumed and produced, or the refusal's number and zeros.
 #[repr(C)]
-#[derive(Clone, Copy)]
+#[derive(Clone, Copy, Debug, PartialEq, Eq)]
 pub struct CodedNumbers {
     pub consumed: usize,
     pub produced: usize,
@@ -38,7 +38,7 @@ pub struct CodedNumbers {
 
 // What a look at a header gives back: 0 and its parameters, or the refusal's number and zeros.
 #[repr(C)]
-#[derive(Clone, Copy)]
+#[derive(Clone, Copy, Debug, PartialEq, Eq)]
 pub struct ParsedNumbers {
     pub parameters: ParameterNumbers,
     pub refusal: u8,
@@ -55,6 +55,7 @@ pub const NO_PARAMETERS: ParameterNumbers = ParameterNumbers {
 };
 
 // The constant has no contract of its own: this one says which definition it is.
+#[tactic(auto, unfolding(crate::specs::Numbers::no_numbers))]
 pub fn no_numbers() -> ParameterNumbers
     ensures { result ≡ no_numbers }
 {
@@ -62,6 +63,7 @@ pub fn no_numbers() -> ParameterNumbers
 }
 
 // Whether the mode and the allocation are numbers of one.
+#[tactic(auto, unfolding(crate::specs::Numbers::is_set))]
 pub fn is_set(numbers: ParameterNumbers) -> bool
     ensures { result ≡ is_set numbers }
 {
@@ -69,6 +71,7 @@ pub fn is_set(numbers: ParameterNumbers) -> bool
 }
 
 // The parameters that numbers stand for.
+#[tactic(auto, unfolding(crate::specs::Numbers::parameters_in))]
 pub fn parameters_in(numbers: ParameterNumbers) -> SbcParameters
     ensures { result ≡ parameters_in numbers }
 {
@@ -83,70 +86,68 @@ pub fn parameters_in(numbers: ParameterNumbers) -> SbcParameters
 }
 
 // The numbers of parameters.
-pub fn numbers_of(parameters: SbcParameters) -> ParameterNumbers
-    ensures { result ≡ numbers_of parameters }
-{
-    let mode = parameters.channel_mode;
-    let allocation = parameters.allocation;
-    ParameterNumbers {
-        sample_rate: parameters.sample_rate,
-        channel_mode: mode.number(),
-        allocation: allocation.number(),
-        blocks: parameters.blocks,
-        subbands: parameters.subbands,
-        bitpool: parameters.bitpool,
+impl From<SbcParameters> for ParameterNumbers {
+    ghost from_gives = { λ p n. n ≡ numbers_of p };
+
+    #[tactic(auto, unfolding(crate::specs::Numbers::numbers_of))]
+    fn from(parameters: SbcParameters) -> ParameterNumbers {
+        ParameterNumbers {
+            sample_rate: parameters.sample_rate,
+            channel_mode: u8::from(parameters.channel_mode),
+            allocation: u8::from(parameters.allocation),
+            blocks: parameters.blocks,
+            subbands: parameters.subbands,
+            bitpool: parameters.bitpool,
+        }
     }
 }
 
 // Whether the numbers stand for accepted parameters.
+#[tactic(auto, unfolding(crate::specs::Numbers::is_accepted))]
 pub fn is_accepted(numbers: ParameterNumbers) -> bool
     ensures { result ≡ is_accepted numbers }
 {
-    if is_set(numbers) {
-        return match parameters_in(numbers).validate() {
-            Validated::Accepted => true,
-            Validated::Refused(_) => false,
-        };
-    }
-    false
+    is_set(numbers) && parameters_in(numbers).accepted().is_ok()
 }
 
 // The numbers of what a decode or encode call answers.
-pub fn coded_numbers(answer: Coded) -> CodedNumbers
-    ensures { result ≡ coded_numbers (told_coded answer) }
+#[tactic(auto, unfolding(crate::specs::Numbers::coded_numbers))]
+pub fn coded_numbers(answer: Result<Progress, Error>) -> CodedNumbers
+    ensures { result ≡ coded_numbers (told answer) }
 {
     match answer {
-        Coded::Done(progress) => CodedNumbers {
+        Ok(progress) => CodedNumbers {
             consumed: progress.consumed,
             produced: progress.produced,
             refusal: 0,
         },
-        Coded::Refused(error) => CodedNumbers {
+        Err(error) => CodedNumbers {
             consumed: 0,
             produced: 0,
-            refusal: error.number(),
+            refusal: u8::from(error),
         },
     }
 }
 
 // The numbers of the parameters that the first bytes of a frame say.
+#[tactic(auto, unfolding(crate::specs::Numbers::parsed_numbers, crate::specs::Numbers::no_numbers))]
 pub fn parsed_numbers(header: &[u8]) -> ParsedNumbers
     ensures { result ≡ parsed_numbers (parse header.now) }
 {
-    let parsed = SbcParameters::parse(header);
-    match parsed {
-        Parsed::Parameters(parameters) => ParsedNumbers {
-            parameters: numbers_of(parameters),
+    match SbcParameters::parse(header) {
+        Ok(parameters) => ParsedNumbers {
+            parameters: ParameterNumbers::from(parameters),
             refusal: 0,
         },
-        Parsed::Refused(error) => ParsedNumbers {
+        Err(error) => ParsedNumbers {
             parameters: NO_PARAMETERS,
-            refusal: error.number(),
+            refusal: u8::from(error),
         },
     }
 }
 
 // The bytes of a frame; 0 where the parameters are not accepted.
+#[tactic(auto, unfolding(crate::specs::Numbers::size_in))]
 pub fn frame_length_in(numbers: ParameterNumbers) -> usize
     ensures { result ≡ size_in frame_length numbers }
 {
@@ -157,6 +158,7 @@ pub fn frame_length_in(numbers: ParameterNumbers) -> usize
 }
 
 // The samples of a frame, all channels together; 0 where the parameters are not accepted.
+#[tactic(auto, unfolding(crate::specs::Numbers::size_in))]
 pub fn frame_samples_in(numbers: ParameterNumbers) -> usize
     ensures { result ≡ size_in frame_samples numbers }
 {

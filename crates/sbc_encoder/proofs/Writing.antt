@@ -85,6 +85,14 @@ pub encode_short : (e : SbcEncoder) (pcm : List ℤ) (output : List ℕ) → acc
 unfolding encode
 encode_short e pcm output a h = rw (a, lt-ltb (length output) (frame_length e.parameters) h)
 
+-- a set that is not accepted
+pub encode-unaccepted : (e : SbcEncoder) (pcm : List ℤ) (output : List ℕ) → accepted e.parameters ≡ false
+    → encode e pcm output ≡ record { answer = refuses 3; encoder = e; output = output }
+unfolding encode
+encode-unaccepted e pcm output a = rw a
+
+pub ruleset refusing = (encode_short, encode-unaccepted)
+
 -- ---- one more frame at the end: it comes from the encoder after n frames and the samples behind n frames
 
 -- the parameters stay

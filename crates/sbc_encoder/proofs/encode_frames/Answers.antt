@@ -31,10 +31,10 @@ encode_frame-requires c =
     let size : ℕ = c.frame_length-length.result in
     let input : List ℤ = c.args.input.now in
     let some_left : (i + 1) * samples ≤ length input =
-    room c.args.count i _ _ _ c.frame_samples-samples.ensures c.requires.1 (omega arith) in
+    room c.args.count i _ _ _ c.frame_samples-samples.ensures c.requires.0 (omega arith) in
     let room-left : (i + 1) * size ≤ length c.loop-i.output =
-    omega (arith, room c.args.count i _ _ _ c.frame_length-length.ensures c.requires.2 (omega arith), c.loop-i.auto.output) in (
-      c.requires.0,
+    omega (arith, room c.args.count i _ _ _ c.frame_length-length.ensures c.requires.1 (omega arith), c.loop-i.auto.output) in (
+      c.args.accepted.is_accepted,
       omega (arith, ap length (tail-part (i * samples) input), length-drop (i * samples) input, some_left, suc-mul i samples),
       mid_len (i * size) ((i + 1) * size) c.loop-i.output room-left ∙ omega (arith, suc-mul i size),
     )
@@ -42,7 +42,7 @@ encode_frame-requires c =
 pub loop-i-preserved : goal.loop-i-preserved
 loop-i-preserved c =
     let a = c.args in
-    let p : SbcParameters = a.parameters in
+    let p : SbcParameters = a.accepted.set in
     let i : ℕ = c.loop-i.i in
     let samples : ℕ = c.frame_samples-samples.result in
     let input : List ℤ = a.input.now in
@@ -70,5 +70,5 @@ returns c =
     let l = c.loop-i in
     let a = c.args in
     let done : l.i ≡ a.count = omega arith in
-    let t = subst (Framing a.parameters a.left.now a.right.now a.input.now a.output.now l.left l.right l.output) done l.invariant.1 in
+    let t = subst (Framing a.accepted.set a.left.now a.right.now a.input.now a.output.now l.left l.right l.output) done l.invariant.1 in
     record { encoder = t.encoder; output = t.written }

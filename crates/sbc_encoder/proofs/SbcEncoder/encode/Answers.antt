@@ -1,7 +1,8 @@
--- `SbcEncoder::encode_accepted` meets its contract: the answer of an output under one frame, and that of the frames that both buffers hold.
+-- `SbcEncoder::encode` meets its contract where its parameters are accepted and the output has a frame: the answer is that of the frames that both buffers hold.
 -- Assumes nothing.
 use Prim.Native.Nat.{ℕ, ◌*◌, ◌/◌, ◌≤◌, min}
 use mathlib.Core.Path.{◌≡◌, refl, sym, ap, ap₂, subst, subst₂, ◌∙◌}
+use mathlib.Core.Bool.{true}
 use mathlib.Core.List.{List, [], ◌++◌}
 use native.Mathlib.Omega.{arith}
 use lib.IntN.{ℤ}
@@ -10,16 +11,17 @@ use borrow.Author.Tests.{le-ltb}
 use Rattle.laws.specs.Answers.{gives}
 use Rattle.laws.specs.Lists.{collect, build}
 use Rattle.laws.proofs.Lists.{build-is}
+use Rattle.sbc_parameters.specs.Parameters.{accepted}
 use Rattle.sbc_parameters.specs.Sizes.{frame_length, frame_samples}
 use Rattle.sbc_parameters.proofs.Accepted.{frame-length-range, frame-samples-range}
-use Rattle.codec.specs.Answers.{told_coded, whole_frames, progress_of}
+use Rattle.codec.specs.Answers.{whole_frames, progress_of}
 use Rattle.sbc_encoder.specs.Encode.{encoder_after, encoded_frames, pack_all, encode_frames, encode}
-use Rattle.sbc_encoder.specs.Told.{told_encoded, encoder_with}
+use Rattle.sbc_encoder.specs.Told.{encoder_with}
 use Rattle.sbc_encoder.specs.declared.Analysis.{Analysis}
 use Rattle.sbc_encoder.specs.declared.SbcEncoder.{SbcEncoder}
 use Rattle.codec.proofs.Fitting.{fits_in}
 use Rattle.sbc_encoder.proofs.Writing.{frames, frames-fit}
-use Rattle.sbc_encoder.proofs.SbcEncoder.encode_accepted.Goals as goal
+use Rattle.sbc_encoder.proofs.SbcEncoder.encode.Goals as goal
 
 -- what the code reads where an array has no such history
 abbrev none : Analysis
@@ -54,61 +56,50 @@ fills : (e : SbcEncoder) (input : List ℤ) (output : List ℕ) (n : ℕ) → n 
 fills e input output n h = subst (λ n. n * frame_length e.parameters ≤ length output) (sym h) (frames-fit e input output)
 
 pub nonzero_div-input : goal.nonzero_div-input
-nonzero_div-input c = omega (arith, c.frame_samples-samples.ensures, (frame-samples-range c.args.self.parameters c.requires).0)
+nonzero_div-input c =
+    let a = c.in_ok-accepted.accepted in
+    omega (arith, c.frame_samples-samples.ensures, (frame-samples-range a.set a.is_accepted).0)
 
 pub nonzero_div-output : goal.nonzero_div-output
-nonzero_div-output c = omega (arith, c.frame_length-length.ensures, (frame-length-range c.args.self.parameters c.requires).0)
+nonzero_div-output c =
+    let a = c.in_ok-accepted.accepted in
+    omega (arith, c.frame_length-length.ensures, (frame-length-range a.set a.is_accepted).0)
 
 pub encode_frames-requires : goal.encode_frames-requires
 encode_frames-requires c =
-    let e = c.args.self in
+    let e = c.args.self.now in
+    let same = c.in_ok-accepted.ensures.ok in
     let h =
-    count_is e c.args.input.now c.args.output.now c.min-count.result _ _ c.frame_samples-samples.ensures c.frame_length-length.ensures
-    c.min-count.ensures in
-    (c.requires, reads e c.args.input.now c.args.output.now _ h, fills e c.args.input.now c.args.output.now _ h)
-
-pub overflow_mul-consumed : goal.overflow_mul-consumed
-overflow_mul-consumed c =
-    let e = c.args.self in
-    let h =
-    count_is e c.args.input.now c.args.output.now c.min-count.result _ _ c.frame_samples-samples.ensures c.frame_length-length.ensures
-    c.min-count.ensures in
-    omega
-    (arith, reads e c.args.input.now c.args.output.now _ h, ap (λ n. c.min-count.result * n) c.frame_samples-samples.ensures)
-
-pub overflow_mul-produced : goal.overflow_mul-produced
-overflow_mul-produced c =
-    let e = c.args.self in
-    let h =
-    count_is e c.args.input.now c.args.output.now c.min-count.result _ _ c.frame_samples-samples.ensures c.frame_length-length.ensures
-    c.min-count.ensures in
-    omega (arith, fills e c.args.input.now c.args.output.now _ h, ap (λ n. c.min-count.result * n) c.frame_length-length.ensures)
+    count_is e c.args.input.now c.args.output.now c.min-count.result _ _ (c.frame_samples-samples.ensures ∙ ap frame_samples same)
+    (c.frame_length-length.ensures ∙ ap frame_length same) c.min-count.ensures in
+    rw same (reads e c.args.input.now c.args.output.now _ h, fills e c.args.input.now c.args.output.now _ h)
 
 -- after the frames: the encoder and the output are those of the call
 pub returns : goal.returns
-unfolding told_coded progress_of told_encoded encode_frames encode
+unfolding progress_of encode_frames encode
 returns c =
-    let e : SbcEncoder = c.args.self in
+    let e : SbcEncoder = c.args.self.now in
     let input : List ℤ = c.args.input.now in
     let output : List ℕ = c.args.output.now in
+    let same = c.in_ok-accepted.ensures.ok in
+    let size : c.frame_length-length.result ≡ frame_length e.parameters = c.frame_length-length.ensures ∙ ap frame_length same in
+    let rate : c.frame_samples-samples.result ≡ frame_samples e.parameters = c.frame_samples-samples.ensures ∙ ap frame_samples same in
     let n : ℕ = frames e input output in
     let left : List ℤ = c.encode_frames.new.left in
     let right : List ℤ = c.encode_frames.new.right in
     let filled : List ℕ = c.encode_frames.new.output in
-    let h : c.min-count.result ≡ n =
-    count_is e input output c.min-count.result _ _ c.frame_samples-samples.ensures c.frame_length-length.ensures c.min-count.ensures in
+    let h : c.min-count.result ≡ n = count_is e input output c.min-count.result _ _ rate size c.min-count.ensures in
     let w = c.well_formed in
-    let two : length c.args.self.analysis ≡ 2 = omega arith in
+    let two : length e.analysis ≡ 2 = omega arith in
     let hears : encoder_with e.parameters left right ≡ encoder_after n e input =
-    subst₂ (λ k x. encoder_with e.parameters left right ≡ encoder_after k x input) h (held e none two) c.encode_frames.ensures.encoder in
+    subst₂ (λ k x. encoder_with e.parameters left right ≡ encoder_after k x input) h (held e none two)
+    (rw same at c.encode_frames.ensures.encoder) in
     let writes : filled ≡ pack_all e.parameters (encoded_frames n e input) ++ drop (n * frame_length e.parameters) output =
     subst₂
     (λ k x. filled ≡ pack_all e.parameters (encoded_frames k x input) ++ drop (k * frame_length e.parameters) output)
-    h (held e none two) c.encode_frames.ensures.output in
-    let consumes = ap₂ ◌*◌ h c.frame_samples-samples.ensures in
-    let produces = ap₂ ◌*◌ h c.frame_length-length.ensures in
-    rw (
-      c.requires,
-      le-ltb (length output) (frame_length e.parameters) (omega (arith, c.frame_length-length.ensures)),
-    )
+    h (held e none two) (rw same at c.encode_frames.ensures.output) in
+    let consumes = ap₂ ◌*◌ h rate in
+    let produces = ap₂ ◌*◌ h size in
+    let yes : accepted e.parameters ≡ true = rw same at c.in_ok-accepted.accepted.is_accepted in
+    rw (yes, le-ltb (length output) (frame_length e.parameters) (omega (arith, size, c.if-output-length.false)))
     (λ i. record { answer = gives (record { consumed = consumes i; produced = produces i }); encoder = hears i; output = writes i })
