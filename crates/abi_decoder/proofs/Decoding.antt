@@ -2,8 +2,9 @@
 -- Assumes nothing.
 use Prim.Native.Nat.{ℕ, zero, suc, ◌+◌, ◌<◌}
 use mathlib.Core.Path.{◌≡◌, refl, sym, ap, ◌∙◌}
-use mathlib.Core.Bool.{Bool, true, false, true≢false}
+use mathlib.Core.Bool.{Bool, true, false, ◌&&◌, true≢false}
 use mathlib.Core.List.{List}
+use native.Mathlib.Nat.{zero-add}
 use native.Mathlib.Omega.{arith}
 use lib.Dec.{eqb, ltb}
 use lib.IntN.{ℤ, pos}
@@ -19,14 +20,14 @@ use Rattle.sbc_frame.specs.Channels.{no_synthesis}
 use Rattle.codec.specs.declared.Progress.{Progress}
 use Rattle.sbc_decoder.specs.Decode.{cleared, new_decoder, with_parameters, with_synthesis, next_decoder, play, decode_all, decode}
 use Rattle.sbc_decoder.specs.Seek.{seek}
-use Rattle.sbc_seek.specs.declared.LastParameters.{LastParameters}
-use Rattle.sbc_seek.specs.declared.LastParameters.TheVariants.{None, Some}
+use Rattle.std.specs.Prelude.{Option, None, Some}
+use Rattle.sbc_parameters.specs.declared.SbcParameters.{SbcParameters}
 use Rattle.sbc_decoder.specs.declared.SbcDecoder.{SbcDecoder}
 use Rattle.sbc_frame.specs.Decoding.{synthesis_histories}
 use Rattle.sbc_decoder.proofs.Taking.{decode-induction}
 use Rattle.sbc_decoder.proofs.Refusals.{decode-refused}
 use Rattle.abi_numbers.specs.Numbers.{no_numbers, coded_numbers}
-use Rattle.abi_decoder.specs.Decoder.{is_blank, is_held, is_decoder, last_in, synthesis_of, decoder_in, held_number, held_numbers, absent, state_of, DecodeAfter, after_decode, decode_state, after_seek, seek_state}
+use Rattle.abi_decoder.specs.Decoder.{is_blank, is_held, is_decoder, last_in, synthesis_of, decoder_in, held_number, held_numbers, absent, state_of, DecodeAfter, after_decode, decode_state, after_seek, seek_numbers, seek_state}
 use Rattle.abi_numbers.specs.declared.ParameterNumbers.{ParameterNumbers}
 use Rattle.abi_decoder.specs.declared.DecoderState.{DecoderState}
 use Rattle.abi_numbers.proofs.Numbers.{parameters-back, numbers-back, numbers-set}
@@ -87,7 +88,7 @@ state-back s is =
 
 -- ---- a decoder, its state, and the decoder again
 
-last-back : (l : LastParameters) → last_in (held_number l) (held_numbers l) ≡ l
+last-back : (l : Option SbcParameters) → last_in (held_number l) (held_numbers l) ≡ l
 unfolding last_in held_number held_numbers
 last-back None = refl
 last-back (Some p) = ap Some (parameters-back p)
@@ -104,7 +105,7 @@ decoder-back d two =
     let finishing = test_back d.finishing in
     λ i. record { parameters = last i; synthesis = histories i; finishing = finishing i; skip = d.skip }
 
-last-held : (l : LastParameters) → is_held (held_number l) (held_numbers l) ≡ true
+last-held : (l : Option SbcParameters) → is_held (held_number l) (held_numbers l) ≡ true
 unfolding no_numbers is_blank is_held held_number held_numbers
 last-held None = refl
 last-held (Some p) = numbers-set p
@@ -177,3 +178,45 @@ decode-stays s input output n =
     go is (refuses m) e h =
         let kept = decode-refused (decoder_in s) input output m e in
         (ap state_of kept.0 ∙ state-back s is, kept.1)
+
+-- ---- for the code
+
+zero-sum : (a b : ℕ) → eqb (a + b) 0 ≡ (eqb a 0 && eqb b 0)
+zero-sum zero b = ap (λ n. eqb n 0) (zero-add b)
+zero-sum (suc a) b =
+    ne_eqb (suc a + b) 0 (λ e. omega (arith, e)) ∙ sym (ap (λ t. t && eqb b 0) (ne_eqb (suc a) 0 (λ e. omega (arith, e))))
+
+-- numbers that equal zeros one by one
+pub blank-is : (n : ParameterNumbers) → is_blank n
+    ≡ (eqb n.sample_rate 0 && (eqb n.channel_mode 0 && (eqb n.allocation 0 && (eqb n.blocks 0 && (eqb n.subbands 0 && eqb n.bitpool 0)))))
+unfolding is_blank
+blank-is n =
+    let e : n.sample_rate + (n.channel_mode + n.allocation + n.blocks + n.subbands) + n.bitpool
+    ≡ n.sample_rate + (n.channel_mode + (n.allocation + (n.blocks + (n.subbands + n.bitpool)))) = omega arith in
+    ap (λ k. eqb k 0) e ∙ simp zero-sum
+
+pub ruleset blanks = (blank-is)
+
+module _ (s : DecoderState) (input : List ℕ) (output : List ℤ) where
+  pub decode-none : is_decoder s ≡ false → decode_state s input output ≡ record { answer = coded_numbers (refuses 3); state = s; output = output }
+  unfolding decode_state
+  decode-none h = rw h
+
+  pub decode-some : is_decoder s ≡ true → decode_state s input output
+      ≡ (let r = decode (decoder_in s) input output in record { answer = coded_numbers r.answer; state = state_of r.decoder; output = r.output })
+  unfolding decode_state after_decode
+  decode-some h = rw h
+
+pub ruleset decoding = (decode-none, decode-some)
+
+module _ (s : DecoderState) (position : ℕ) where
+  pub seek-none : is_decoder s ≡ false → seek_state s position ≡ record { answer = seek_numbers (refuses 3); state = s }
+  unfolding seek_state
+  seek-none h = rw h
+
+  pub seek-some : is_decoder s ≡ true → seek_state s position
+      ≡ (let r = seek (decoder_in s) position in record { answer = seek_numbers r.answer; state = state_of r.decoder })
+  unfolding seek_state after_seek
+  seek-some h = rw h
+
+pub ruleset seeking = (seek-none, seek-some)

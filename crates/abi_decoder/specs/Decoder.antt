@@ -1,12 +1,11 @@
 -- A decoder as numbers, and its calls on them: what the state stands for goes through the call of sbc_decoder, and the result is numbers again. A state that
 -- stands for no decoder is refused with InvalidParameter, and stays.
-use Rattle.std.specs.Prelude.{ℕ, ◌+◌, Bool, ◌&&◌, List, [], ◌∷◌, eqb, ltb, ℤ, get_or, if◌then◌else◌}
+use Rattle.std.specs.Prelude.{ℕ, ◌+◌, Bool, ◌&&◌, List, [], ◌∷◌, eqb, ltb, ℤ, get_or, if◌then◌else◌, Option, None, Some}
 use Rattle.laws.specs.Answers.{Told, gives, refuses}
 use Rattle.sbc_filterbank.specs.declared.synthesis.Synthesis.{Synthesis}
 use Rattle.sbc_decoder.specs.Decode.{Decoded, finish, decode}
 use Rattle.sbc_decoder.specs.Seek.{Sought, reset, seek}
-use Rattle.sbc_seek.specs.declared.LastParameters.{LastParameters}
-use Rattle.sbc_seek.specs.declared.LastParameters.TheVariants.{None, Some}
+use Rattle.sbc_parameters.specs.declared.SbcParameters.{SbcParameters}
 use Rattle.sbc_decoder.specs.declared.SbcDecoder.{SbcDecoder}
 use Rattle.sbc_seek.specs.declared.SeekRequest.{SeekRequest}
 use Rattle.abi_numbers.specs.Numbers.{is_set, parameters_in, numbers_of, no_numbers, coded_numbers}
@@ -14,8 +13,6 @@ use Rattle.abi_numbers.specs.declared.ParameterNumbers.{ParameterNumbers}
 use Rattle.abi_numbers.specs.declared.CodedNumbers.{CodedNumbers}
 use Rattle.abi_decoder.specs.declared.SeekNumbers.{SeekNumbers}
 use Rattle.abi_decoder.specs.declared.DecoderState.{DecoderState}
-use Rattle.abi_decoder.specs.declared.DecodedState.{DecodedState}
-use Rattle.abi_decoder.specs.declared.SoughtState.{SoughtState}
 
 -- ---- the states that stand for a decoder
 
@@ -32,7 +29,7 @@ is_decoder s = ltb s.finishing 2 && is_held s.has_parameters s.parameters
 
 -- ---- the decoder of a state, and the state of a decoder
 
-unfoldable pub last_in : ℕ → ParameterNumbers → LastParameters
+unfoldable pub last_in : ℕ → ParameterNumbers → Option SbcParameters
 last_in has n = if eqb has 1 then Some (parameters_in n) else None
 
 unfoldable pub synthesis_of : List ℤ → ℕ → Synthesis
@@ -47,11 +44,11 @@ decoder_in s =
       skip = s.skip;
     }
 
-unfoldable pub held_number : LastParameters → ℕ
+unfoldable pub held_number : Option SbcParameters → ℕ
 held_number None = 0
 held_number (Some p) = 1
 
-unfoldable pub held_numbers : LastParameters → ParameterNumbers
+unfoldable pub held_numbers : Option SbcParameters → ParameterNumbers
 held_numbers None = no_numbers
 held_numbers (Some p) = numbers_of p
 
@@ -79,9 +76,6 @@ pub record DecodeAfter : Type 0 where
   pub state : DecoderState
   pub output : List ℤ
 
-unfoldable pub told_decode : DecodedState → List ℤ → DecodeAfter
-told_decode r output = record { answer = r.answer; state = r.state; output = output }
-
 unfoldable pub after_decode : Decoded → DecodeAfter
 after_decode r = record { answer = coded_numbers r.answer; state = state_of r.decoder; output = r.output }
 
@@ -94,10 +88,14 @@ unfoldable pub seek_numbers : Told SeekRequest → SeekNumbers
 seek_numbers (gives request) = record { byte_offset = request.byte_offset; skip_frames = request.skip_frames; refusal = 0 }
 seek_numbers (refuses n) = record { byte_offset = 0; skip_frames = 0; refusal = n }
 
-unfoldable pub after_seek : Sought → SoughtState
+pub record SeekAfter : Type 0 where
+  pub answer : SeekNumbers
+  pub state : DecoderState
+
+unfoldable pub after_seek : Sought → SeekAfter
 after_seek r = record { answer = seek_numbers r.answer; state = state_of r.decoder }
 
-unfoldable pub seek_state : DecoderState → ℕ → SoughtState
+unfoldable pub seek_state : DecoderState → ℕ → SeekAfter
 seek_state s position =
     if is_decoder s then after_seek (seek (decoder_in s) position) else record { answer = seek_numbers (refuses 3); state = s }
 
