@@ -2,7 +2,7 @@
 -- Assumes nothing.
 use Prim.Native.Nat.{ℕ, suc}
 use mathlib.Core.Path.{◌≡◌, refl, sym, ap, ◌∙◌}
-use mathlib.Core.Bool.{true}
+use mathlib.Core.Bool.{true, false}
 use mathlib.Core.List.{List}
 use native.Mathlib.Omega.{arith}
 use lib.IntN.{ℤ}
@@ -62,3 +62,16 @@ encode-stays s pcm output n =
     go is (refuses m) e h =
         let kept = encode-refused (encoder_in s) pcm output m e in
         (ap state_of kept.0 ∙ state-back s is, kept.1)
+
+-- ---- for the code
+module _ (s : EncoderState) (pcm : List ℤ) (output : List ℕ) where
+  pub encode-none : is_set s.parameters ≡ false → encode_state s pcm output ≡ record { answer = coded_numbers (refuses 3); state = s; output = output }
+  unfolding encode_state
+  encode-none h = rw h
+
+  pub encode-some : is_set s.parameters ≡ true → encode_state s pcm output
+      ≡ (let r = encode (encoder_in s) pcm output in record { answer = coded_numbers r.answer; state = state_of r.encoder; output = r.output })
+  unfolding encode_state after_encode
+  encode-some h = rw h
+
+pub ruleset encoding = (encode-none, encode-some)

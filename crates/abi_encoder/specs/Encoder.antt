@@ -9,8 +9,6 @@ use Rattle.abi_numbers.specs.Numbers.{is_set, parameters_in, numbers_of, is_acce
 use Rattle.abi_numbers.specs.declared.ParameterNumbers.{ParameterNumbers}
 use Rattle.abi_numbers.specs.declared.CodedNumbers.{CodedNumbers}
 use Rattle.abi_encoder.specs.declared.EncoderState.{EncoderState}
-use Rattle.abi_encoder.specs.declared.EncodedState.{EncodedState}
-use Rattle.abi_encoder.specs.declared.CreatedState.{CreatedState}
 
 -- ---- the encoder of a state, and the state of an encoder
 
@@ -36,9 +34,6 @@ pub record EncodeAfter : Type 0 where
   pub state : EncoderState
   pub output : List ℕ
 
-unfoldable pub told_encode : EncodedState → List ℕ → EncodeAfter
-told_encode r output = record { answer = r.answer; state = r.state; output = output }
-
 unfoldable pub after_encode : Encoded → EncodeAfter
 after_encode r = record { answer = coded_numbers r.answer; state = state_of r.encoder; output = r.output }
 
@@ -47,8 +42,13 @@ encode_state s pcm output =
     if is_set s.parameters then after_encode (encode (encoder_in s) pcm output) else
     record { answer = coded_numbers (refuses 3); state = s; output = output }
 
+-- whether the parameters of a new encoder are accepted, 0 or 3, and the state
+pub record CreateAfter : Type 0 where
+  pub refusal : ℕ
+  pub state : EncoderState
+
 -- a new encoder in a state's place, where the parameters are accepted
-unfoldable pub create_state : EncoderState → ParameterNumbers → CreatedState
+unfoldable pub create_state : EncoderState → ParameterNumbers → CreateAfter
 create_state s n =
     if is_accepted n then record { refusal = 0; state = state_of (encoder_of (parameters_in n)) } else record { refusal = 3; state = s }
 

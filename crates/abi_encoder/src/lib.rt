@@ -1,14 +1,13 @@
-// An encoder as a struct of numbers, and the encoder's calls on it, by value; `sbc_abi` has them on a state that is lent. Their definitions stand in
-// specs/.
+// An encoder as a struct of numbers, and the encoder's calls on it, which `sbc_abi` exports. Their definitions stand in specs/.
 #![tactic(auto)]
 
 ghost use Rattle.std.specs.Prelude.{◌≡◌};
-ghost use Rattle.sbc_encoder.specs.Encode.{encode};
-ghost use Rattle.abi_encoder.specs.Encoder.{encoder_in, state_of, told_encode, after_encode, encode_state, create_state, reset_state};
+ghost use Rattle.abi_encoder.specs.Encoder.{encoder_in, state_of, encode_state, create_state, reset_state};
 
 use abi_numbers::{
-    CodedNumbers, ParameterNumbers, coded_numbers, is_accepted, is_set, numbers_of, parameters_in,
+    CodedNumbers, ParameterNumbers, coded_numbers, is_accepted, is_set, parameters_in,
 };
+use codec::Error;
 use sbc_encoder::{Analysis, SbcEncoder};
 
 // An encoder.
@@ -21,105 +20,71 @@ pub struct EncoderState {
     pub parameters: ParameterNumbers,
 }
 
-// What an encode call gives back, and the state after it.
-#[derive(Clone, Copy)]
-pub struct EncodedState {
-    pub answer: CodedNumbers,
-    pub state: EncoderState,
-}
-
-// Whether the parameters of a new encoder are accepted, 0 or 3, and its state.
-#[derive(Clone, Copy)]
-pub struct CreatedState {
-    pub refusal: u8,
-    pub state: EncoderState,
-}
-
-// ---- an encoder as numbers
-
-// The encoder that a state stands for.
-fn encoder_in(state: EncoderState) -> SbcEncoder
-    ensures { result ≡ encoder_in state }
-{
-    let left = state.left;
-    let right = state.right;
-    let numbers = state.parameters;
-    SbcEncoder {
-        parameters: parameters_in(numbers),
-        analysis: [Analysis { history: left }, Analysis { history: right }],
-    }
-}
-
 // The state of an encoder.
-fn state_of(encoder: SbcEncoder) -> EncoderState
-    ensures { result ≡ state_of encoder }
+#[tactic(auto, unfolding(crate::specs::Encoder::state_of))]
+fn state_of(encoder: &SbcEncoder) -> EncoderState
+    ensures { result ≡ state_of encoder.now }
 {
-    let parameters = encoder.parameters;
-    let first = encoder.analysis[0];
-    let second = encoder.analysis[1];
+    let [first, second] = encoder.analysis;
     let left = first.history;
     let right = second.history;
     EncoderState {
         left,
         right,
-        parameters: numbers_of(parameters),
+        parameters: ParameterNumbers::from(encoder.parameters),
     }
 }
 
-// ---- the calls by value
-
-// A new encoder with these parameters; the state stays where they are not accepted.
-pub fn created(state: EncoderState, parameters: ParameterNumbers) -> CreatedState
-    ensures { result ≡ create_state state parameters }
-{
-    if is_accepted(parameters) {
-        let made = SbcEncoder::new(parameters_in(parameters));
-        let encoder = made.encoder;
-        return CreatedState {
-            refusal: 0,
-            state: state_of(encoder),
-        };
+impl EncoderState {
+    // The encoder that the numbers stand for.
+    #[tactic(auto, unfolding(crate::specs::Encoder::encoder_in))]
+    fn encoder(&self) -> SbcEncoder
+        ensures { result ≡ encoder_in self.now }
+    {
+        let left = self.left;
+        let right = self.right;
+        SbcEncoder {
+            parameters: parameters_in(self.parameters),
+            analysis: [Analysis { history: left }, Analysis { history: right }],
+        }
     }
-    CreatedState { refusal: 3, state }
-}
 
-// Silence again; a state that stands for no encoder stays.
-pub fn restarted(state: EncoderState) -> EncoderState
-    ensures { result ≡ reset_state state }
-{
-    let numbers = state.parameters;
-    if is_set(numbers) {
-        return state_of(encoder_in(state).restarted());
+    // Makes a new encoder with these parameters, with silence in both channels: 0, or the refusal's number where they are not accepted, and the
+    // state stays.
+    #[tactic(auto, unfolding(crate::specs::Encoder::create_state))]
+    pub fn create(&mut self, parameters: ParameterNumbers) -> u8
+        ensures { record { refusal = result; state = self.new } ≡ create_state self.old parameters }
+    {
+        if !is_accepted(parameters) {
+            return u8::from(Error::InvalidParameter);
+        }
+        *self = state_of(&SbcEncoder::silent(parameters_in(parameters)));
+        0
     }
-    state
-}
 
-// Encodes with an encoder, and gives back its state.
-fn encoded_with(encoder: SbcEncoder, input: &[i16], output: &mut [u8]) -> EncodedState
-    ensures { told_encode result output.new ≡ after_encode (encode encoder input.now output.old) }
-{
-    let result = encoder.encoded(input, output);
-    let answer = result.answer;
-    let next = result.encoder;
-    EncodedState {
-        answer: coded_numbers(answer),
-        state: state_of(next),
+    // Silence again; a state that stands for no encoder stays.
+    #[tactic(auto, unfolding(crate::specs::Encoder::reset_state))]
+    pub fn reset(&mut self)
+        ensures { self.new ≡ reset_state self.old }
+    {
+        if is_set(self.parameters) {
+            let mut encoder = self.encoder();
+            encoder.reset();
+            *self = state_of(&encoder);
+        }
     }
-}
 
-pub fn encoded(state: EncoderState, input: &[i16], output: &mut [u8]) -> EncodedState
-    ensures { told_encode result output.new ≡ encode_state state input.now output.old }
-{
-    let numbers = state.parameters;
-    if is_set(numbers) {
-        return encoded_with(encoder_in(state), input, output);
-    }
-    EncodedState {
-        answer: CodedNumbers {
-            consumed: 0,
-            produced: 0,
-            refusal: 3,
-        },
-        state,
+    // Encodes as many frames as both buffers hold; a state that stands for no encoder is refused, and stays.
+    #[tactic(auto, using(crate::proofs::Encoding::encoding))]
+    pub fn encode(&mut self, input: &[i16], output: &mut [u8]) -> CodedNumbers
+        ensures { record { answer = result; state = self.new; output = output.new } ≡ encode_state self.old input.now output.old }
+    {
+        if !is_set(self.parameters) {
+            return coded_numbers(Err(Error::InvalidParameter));
+        }
+        let mut encoder = self.encoder();
+        let answer = encoder.encode(input, output);
+        *self = state_of(&encoder);
+        coded_numbers(answer)
     }
 }
