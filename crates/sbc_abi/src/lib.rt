@@ -2,7 +2,7 @@
 // slices and structs of numbers. include/sbc.h declares them for C, and include/sbc.rs has safe calls over them for Rust.
 //
 // No enum may cross to C, so a state is a struct of the numbers that stand for it (`abi_decoder`, `abi_encoder`). The caller owns it and lends it by
-// pointer. Each contract is one equation, with the definitions of the calls by value, and none has a `requires`: numbers that stand for nothing
+// pointer. Each contract is one equation, with the definitions of the calls, and none has a `requires`: numbers that stand for nothing
 // get refusal 3.
 //
 // What this boundary assumes of a caller, and nothing checks: x86-64 and System V's C calling convention, a slice passed as a pointer and then its
