@@ -7,13 +7,12 @@ use mathlib.Core.Bool.{Bool, true, false, ◌&&◌, false≢true}
 use native.Mathlib.Omega.{arith}
 use lib.Dec.{eqb, ltb}
 use borrow.Author.Tests.{eqb-false, ne_eqb, ltb-false, le-ltb}
-use Rattle.std.specs.Prelude.{if◌then◌else◌}
+use Rattle.std.specs.Prelude.{if◌then◌else◌, None, Some}
 use Rattle.laws.specs.Answers.{gives, refuses}
 use Rattle.laws.proofs.Answers.{gives-refuses, refuses-same}
 use Rattle.sbc_parameters.specs.Parameters.{accepted, validate}
 use Rattle.sbc_parameters.specs.declared.SbcParameters.{SbcParameters}
 use Rattle.sbc_seek.specs.Seek.{seek_offset, seek_skip, request_of, request_in, first_request, seek_request}
-use Rattle.sbc_seek.specs.declared.LastParameters.TheVariants.{None, Some}
 use Rattle.sbc_encoder.specs.Encode.{encoder_of, new_encoder}
 use Rattle.sbc_decoder.specs.Seek.{seek}
 use Rattle.sbc_decoder.specs.declared.SbcDecoder.{SbcDecoder}

@@ -58,9 +58,9 @@ module _ (p : SbcParameters) where
   -- what a call of the code gives is what the definition gives
   called_is : {s : State} {a : Action} {x : After} → Called p s a x → after p s a ≡ x
   unfolding after after_encode after_decode
-  called_is {s = s} (encode_called {pcm = pcm} {output = output} r exit e) = ap (encoded_after p s pcm output) (sym e)
+  called_is {s = s} (encode_called {pcm = pcm} {output = output} r next exit e) = ap (encoded_after p s pcm output) (sym e)
   called_is {s = s} (finish_called d e) = ap (finished_after p s) (sym e)
-  called_is {s = s} (decode_called {start = start} {size = size} {output = output} r exit e) = ap (decoded_after p s start size output) (sym e)
+  called_is {s = s} (decode_called {start = start} {size = size} {output = output} r next exit e) = ap (decoded_after p s start size output) (sym e)
 
   run_is : {s : State} {actions : List Action} {results : List Result} → CodeRun p s actions results → run p s actions ≡ results
   unfolding run
@@ -79,10 +79,10 @@ created-accepted p e = go (accepted p)
 
 -- what the code's calls give back, and what one channel's listener hears, depends on that channel's samples only
 pub code-two-languages : CodeTwoLanguages
-code-two-languages p created d new given fresh dual c hc xs ys alike results₁ results₂ run₁ run₂ =
-    let e : new_encoder p ≡ gives created.encoder = sym new ∙ given in
-    let from : (SbcDecoder → State) = λ (d : SbcDecoder). record { encoder = created.encoder; decoder = d; stream = [] } in
-    let same = two-languages p created.encoder (created-accepted p created.encoder e) dual e c hc xs ys alike in
+code-two-languages p created e d new given fresh dual c hc xs ys alike results₁ results₂ run₁ run₂ =
+    let made : new_encoder p ≡ gives e = sym new ∙ given in
+    let from : (SbcDecoder → State) = λ (d : SbcDecoder). record { encoder = e; decoder = d; stream = [] } in
+    let same = two-languages p e (created-accepted p e made) dual made c hc xs ys alike in
     subst₂ (λ (rs qs : List Result). SameResults p c rs qs)
     (ap (λ (d : SbcDecoder). run p (from d) xs) (sym fresh) ∙ run_is p run₁)
     (ap (λ (d : SbcDecoder). run p (from d) ys) (sym fresh) ∙ run_is p run₂)

@@ -2,7 +2,7 @@
 -- nothing, that the next call meets the fault, and what a call writes. `parse` has no state, and its refusals are those of its contract
 -- (`Header.parse`).
 -- From document 01, "Calls" and "Given back". A sentence of it stands in quotes above what it became, or above the part that is said here.
-use Rattle.std.specs.Prelude.{ℕ, ◌^◌, ◌≤◌, ◌<◌, max, ◌↔◌, ◌≡◌, true, false, List, ltb, ℤ, length, drop, if◌then◌else◌}
+use Rattle.std.specs.Prelude.{ℕ, ◌^◌, ◌≤◌, ◌<◌, max, ◌↔◌, ◌≡◌, true, false, List, ltb, ℤ, length, drop, if◌then◌else◌, None, Some}
 use Rattle.laws.specs.Answers.{gives, refuses}
 use Rattle.sbc_parameters.specs.Parameters.{accepted, validate}
 use Rattle.sbc_parameters.specs.Sizes.{frame_length}
@@ -11,7 +11,6 @@ use Rattle.codec.specs.Answers.{progress_of}
 use Rattle.codec.specs.declared.Progress.{Progress}
 use Rattle.sbc_look.specs.Next.{Decision, no_frame, refusal, next}
 use Rattle.sbc_seek.specs.Seek.{seek_offset}
-use Rattle.sbc_seek.specs.declared.LastParameters.TheVariants.{None, Some}
 use Rattle.sbc_decoder.specs.Decode.{Decoded, decode, reach}
 use Rattle.sbc_decoder.specs.Seek.{seek}
 use Rattle.sbc_decoder.specs.declared.SbcDecoder.{SbcDecoder}

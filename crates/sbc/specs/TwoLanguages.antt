@@ -1,20 +1,18 @@
 -- Two languages: in dual channel, what decode writes of one channel, and every answer, depends on that channel's samples only.
 -- From document 01, "The words of demand 3".
-use Rattle.std.specs.Prelude.{ℕ, ◌*◌, ◌%◌, ◌<◌, ◌≡◌, true, List, [], ◌∷◌, ◌++◌, ℤ, pos, length, get_or, take, drop}
+use Rattle.std.specs.Prelude.{ℕ, ◌*◌, ◌%◌, ◌<◌, ◌≡◌, true, List, [], ◌∷◌, ◌++◌, ℤ, pos, length, get_or, take, drop, Result as Answer}
 use Rattle.laws.specs.Answers.{Told, gives}
 use Rattle.sbc_parameters.specs.Parameters.{accepted}
 use Rattle.sbc_parameters.specs.Sizes.{frame_length, frame_samples}
 use Rattle.sbc_parameters.specs.declared.SbcParameters.{SbcParameters}
 use Rattle.sbc_modes.specs.declared.SbcChannelMode.TheVariants.{DualChannel}
-use Rattle.codec.specs.Answers.{progress_of, whole_frames}
+use Rattle.codec.specs.Answers.{told, progress_of, whole_frames}
+use Rattle.codec.specs.declared.Error.{Error}
 use Rattle.sbc_encoder.specs.Encode.{new_encoder, Encoded, encode}
 use Rattle.sbc_decoder.specs.Decode.{new_decoder, finish, Decoded, decode}
-use Rattle.sbc_encoder.specs.Told.{told_created, told_encoded}
+use Rattle.sbc_encoder.specs.Told.{told_encoded}
 use Rattle.sbc_decoder.specs.Told.{told_decoded}
 use Rattle.codec.specs.declared.Progress.{Progress}
-use Rattle.sbc_encoder.specs.declared.Created.{Created}
-use Rattle.sbc_encoder.specs.declared.EncodeResult.{EncodeResult}
-use Rattle.sbc_decoder.specs.declared.DecodeResult.{DecodeResult}
 use Rattle.sbc_encoder.specs.declared.SbcEncoder.{SbcEncoder}
 use Rattle.sbc_decoder.specs.declared.SbcDecoder.{SbcDecoder}
 
@@ -142,21 +140,21 @@ TwoLanguages =
     let start : State = record { encoder = e; decoder = new_decoder; stream = [] } in
     SameResults p c (run p start xs) (run p start ys)
 
--- ---- the same of the code: whatever its calls give, as far as the contracts of `SbcEncoder::new`, `SbcEncoder::encoded`, `SbcDecoder::new`,
--- `SbcDecoder::finished` and `SbcDecoder::decoded` tell, which are the equations below. `SbcEncoder::encode`, `SbcDecoder::finish` and
--- `SbcDecoder::decode` tell the same of their answer and of the state where the caller has it
+-- ---- the same of the code: whatever its calls give and leave, as far as the contracts of `SbcEncoder::new`, `SbcEncoder::encode`,
+-- `SbcDecoder::new`, `SbcDecoder::finish` and `SbcDecoder::decode` tell, which are the equations below
 
 module _ (p : SbcParameters) where
-  -- a call of the code: what it gave back, and its output after the call
+  -- a call of the code: what it gave back, and the encoder or decoder and its output after the call
   pub data Called (s : State) : Action → After → Type 0 where
-    encode_called : {pcm : List ℤ} {output : List ℕ} (r : EncodeResult) (exit : List ℕ) → told_encoded r exit ≡ encode s.encoder pcm output
-        → Called s (encodes pcm output) (encoded_after p s pcm output (told_encoded r exit))
+    encode_called : {pcm : List ℤ} {output : List ℕ} (r : Answer Progress Error) (e : SbcEncoder) (exit : List ℕ)
+        → told_encoded r e exit ≡ encode s.encoder pcm output
+        → Called s (encodes pcm output) (encoded_after p s pcm output (told_encoded r e exit))
     finish_called : (d : SbcDecoder) → d ≡ finish s.decoder → Called s finishes (finished_after p s d)
-    decode_called : {start size : ℕ} {output : List ℤ} (r : DecodeResult) (exit : List ℤ)
-        → told_decoded r exit ≡ decode s.decoder (piece_of p s start size) output
-        → Called s (decodes start size output) (decoded_after p s start size output (told_decoded r exit))
+    decode_called : {start size : ℕ} {output : List ℤ} (r : Answer Progress Error) (d : SbcDecoder) (exit : List ℤ)
+        → told_decoded r d exit ≡ decode s.decoder (piece_of p s start size) output
+        → Called s (decodes start size output) (decoded_after p s start size output (told_decoded r d exit))
 
-  -- a run of the code: each call gets the encoder or decoder that the last one gave back
+  -- a run of the code: each call gets the encoder or decoder that the last one left
   pub data CodeRun : State → List Action → List Result → Type 0 where
     none : {s : State} → CodeRun s [] []
     one : {s : State} {a : Action} {x : After} {actions : List Action} {results : List Result} → Called s a x
@@ -165,7 +163,7 @@ module _ (p : SbcParameters) where
 -- The claim of the code: an encoder that `SbcEncoder::new` accepted, a decoder that `SbcDecoder::new` gave.
 abbrev pub CodeTwoLanguages : Type 0
 CodeTwoLanguages =
-    (p : SbcParameters) (created : Created) (d : SbcDecoder) → told_created created ≡ new_encoder p → told_created created ≡ gives created.encoder
-    → d ≡ new_decoder → p.channel_mode ≡ DualChannel → (c : ℕ) → c < 2 → (xs ys : List Action) → AllAlike c xs ys →
-    let start : State = record { encoder = created.encoder; decoder = d; stream = [] } in
+    (p : SbcParameters) (created : Answer SbcEncoder Error) (e : SbcEncoder) (d : SbcDecoder) → told created ≡ new_encoder p
+    → told created ≡ gives e → d ≡ new_decoder → p.channel_mode ≡ DualChannel → (c : ℕ) → c < 2 → (xs ys : List Action) → AllAlike c xs ys →
+    let start : State = record { encoder = e; decoder = d; stream = [] } in
     (results₁ results₂ : List Result) → CodeRun p start xs results₁ → CodeRun p start ys results₂ → SameResults p c results₁ results₂
