@@ -178,10 +178,6 @@ module _ {d₀ : SbcDecoder} {input : List ℕ} {output₀ : List ℤ} {d : SbcD
     step-is : (s : Step) → told_step r ≡ s → (found t).step ≡ s
     step-is s e = sym (ap (λ x. x.step) finds) ∙ e
 
-    -- it is as long as it was
-    pub length-returned : length returned ≡ length output₀
-    length-returned = ap length output-is ∙ length_back t ∙ t.same_length
-
     -- a frame was taken, of some bytes
     pub takes : (one : Progress) → r ≡ Ok (Some one) → Turning d₀ input output₀ next returned (cs + one.consumed) (ps + one.produced)
     takes one e =

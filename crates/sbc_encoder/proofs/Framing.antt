@@ -1,4 +1,4 @@
--- The encode loop: its invariant holds at the start and after each frame, and it keeps the output's length.
+-- The encode loop: its invariant holds at the start and after each frame.
 -- Assumes nothing.
 use Prim.Native.Nat.{ℕ, ◌+◌, ◌-◌, ◌*◌, ◌≤◌}
 use mathlib.Core.Path.{◌≡◌, refl, sym, ap, ap₂, ◌∙◌}
@@ -51,13 +51,6 @@ module _ (p : SbcParameters) (left₀ right₀ input : List ℤ) (output₀ : Li
   no_frame = record { encoder = refl; written = ap (λ k. drop k output₀) (sym (zero-mul (frame_length p))) }
 
   module _ {left right : List ℤ} {output : List ℕ} {i : ℕ} (t : Framing left right output i) where
-    -- the output is as long as it was
-    pub length-framing : i * frame_length p ≤ length output₀ → length output ≡ length output₀
-    length-framing h =
-        ap length t.written
-        ∙ length-append (pack_all p (encoded_frames i first input)) (drop (i * frame_length p) output₀)
-        ∙ omega (arith, length-frames i first input p, length-drop (i * frame_length p) output₀)
-
     -- one more frame, from the samples behind i frames
     pub next-frame : (left' right' : List ℤ) (frame : List ℕ)
         → left' ∷ right' ∷ [] ≡ analysis_histories p (left ∷ right ∷ []) (drop (i * frame_samples p) input)

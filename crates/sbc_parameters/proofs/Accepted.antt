@@ -10,9 +10,9 @@ use native.Mathlib.Omega.{arith}
 use native.Mathlib.Nat.{mul-le-mul, le_refl}
 use lib.Dec.{lit<, lit≤, leb, ltb}
 use lib.ListN.{get_or}
-use borrow.Author.Tests.{eqb-true, leb-true, ltb-true, lt-leb}
+use borrow.Author.Tests.{eqb-true, leb-true, ltb-true}
 use Rattle.laws.specs.Lists.{all_of, index_of, listed}
-use Rattle.laws.proofs.Tests.{all_true, all-false, and-true, listed-cases}
+use Rattle.laws.proofs.Tests.{all_true, and-true, listed-cases}
 use Rattle.sbc_modes.proofs.Numbers.{mono, loudness, channels-of-range}
 use Rattle.sbc_parameters.specs.Parameters.{channels, sample_rates, block_counts, subband_counts, maximum_bitpool, is_msbc, msbc, msbc_tests, field_tests, accepted}
 use Rattle.sbc_parameters.specs.Sizes.{join_count, block_bits, audio_bits, frame_length, samples_per_channel, frame_samples}
@@ -191,11 +191,6 @@ largest-frame =
       length = λ p a. rw maximum-length (frame-length-range p a).1;
       samples = λ p a. rw maximum-samples (frame-samples-range p a).1;
     }
-
--- ---- a bitpool under 2 is none that a header can say
-pub low_bitpool : (p : SbcParameters) → p.bitpool < 2 → all_of (field_tests p) ≡ false
-unfolding field_tests
-low_bitpool p h = all-false (field_tests p) 3 (lt-leb 2 p.bitpool h)
 
 -- ---- a set that is known to be accepted is determined by the set
 pub set-determines : (a b : AcceptedSet) → a.set ≡ b.set → a ≡ b
