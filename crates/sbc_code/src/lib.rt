@@ -1,8 +1,7 @@
 // What is coded of a frame, of its channels' subband samples: join flags, scale factors and samples.
 #![tactic(auto)]
 
-ghost use Rattle.std.specs.Prelude.{◌≡◌, ◌≤◌, true};
-ghost use Rattle.sbc_parameters.specs.Parameters.{accepted};
+ghost use Rattle.std.specs.Prelude.{◌≡◌, ◌≤◌};
 ghost use Rattle.sbc_factors.specs.Factors.{factors_in};
 ghost use Rattle.sbc_join.specs.Joining.{picked_row};
 ghost use Rattle.sbc_code.specs.Coding.{coded, plain_coding, joint_coding, coding_of};
@@ -10,7 +9,7 @@ ghost use Rattle.sbc_code.specs.Coding.{coded, plain_coding, joint_coding, codin
 use sbc_factors::factors_of;
 use sbc_frame::{CodedFrame, Factors};
 use sbc_join::{half_differences, half_sums, join_flags, pick_row, pick_samples};
-use sbc_parameters::SbcParameters;
+use sbc_parameters::AcceptedSet;
 
 // The scale factors of two channels with these samples.
 fn both_factors(left: &[i32; 128], right: &[i32; 128], blocks: usize) -> Factors
@@ -36,11 +35,10 @@ fn pick_factors(flags: &[u8; 8], plain: &Factors, joined: &Factors) -> Factors
 }
 
 // The channels as they are.
-fn code_plain(parameters: SbcParameters, left: &[i32; 128], right: &[i32; 128]) -> CodedFrame
-    requires { accepted parameters ≡ true }
-    ensures { coded result ≡ plain_coding parameters left.now right.now }
+fn code_plain(accepted: AcceptedSet, left: &[i32; 128], right: &[i32; 128]) -> CodedFrame
+    ensures { coded result ≡ plain_coding accepted.set left.now right.now }
 {
-    let blocks = parameters.blocks as usize;
+    let blocks = accepted.set.blocks as usize;
     CodedFrame {
         flags: [0; 8],
         factors: both_factors(left, right, blocks),
@@ -50,16 +48,16 @@ fn code_plain(parameters: SbcParameters, left: &[i32; 128], right: &[i32; 128]) 
 }
 
 // Sum and difference in place of the channels where that takes smaller scale factors.
-fn code_joint(parameters: SbcParameters, left: &[i32; 128], right: &[i32; 128]) -> CodedFrame
-    requires { accepted parameters ≡ true }
-    ensures { coded result ≡ joint_coding parameters left.now right.now }
+fn code_joint(accepted: AcceptedSet, left: &[i32; 128], right: &[i32; 128]) -> CodedFrame
+    ensures { coded result ≡ joint_coding accepted.set left.now right.now }
 {
-    let blocks = parameters.blocks as usize;
+    let set = accepted.set;
+    let blocks = set.blocks as usize;
     let sums = half_sums(left, right);
     let differences = half_differences(left, right);
     let plain = both_factors(left, right, blocks);
     let joined = both_factors(&sums, &differences, blocks);
-    let flags = join_flags(&plain, &joined, parameters.subbands as usize);
+    let flags = join_flags(&plain, &joined, set.subbands as usize);
     let mut coded_left = *left;
     let mut coded_right = *right;
     pick_samples(&mut coded_left, &sums, &flags, blocks);
@@ -73,12 +71,11 @@ fn code_joint(parameters: SbcParameters, left: &[i32; 128], right: &[i32; 128]) 
 }
 
 // What is coded of a frame whose channels have these samples.
-pub fn code(parameters: SbcParameters, left: &[i32; 128], right: &[i32; 128]) -> CodedFrame
-    requires { accepted parameters ≡ true }
-    ensures { coded result ≡ coding_of parameters left.now right.now }
+pub fn code(accepted: AcceptedSet, left: &[i32; 128], right: &[i32; 128]) -> CodedFrame
+    ensures { coded result ≡ coding_of accepted.set left.now right.now }
 {
-    if parameters.join_count() == 0 {
-        return code_plain(parameters, left, right);
+    if accepted.set.join_count() == 0 {
+        return code_plain(accepted, left, right);
     }
-    code_joint(parameters, left, right)
+    code_joint(accepted, left, right)
 }

@@ -7,7 +7,7 @@ use native.Mathlib.Nat.{zero-mul, suc-mul}
 use native.Mathlib.Numerals.{add-one}
 use native.Mathlib.Omega.{arith}
 use lib.IntN.{ℤ}
-use lib.ListN.{length, drop, length-append, length-drop}
+use lib.ListN.{length, drop}
 use lib.Seq.{take_at, drop_at}
 use borrow.Rule.Slice.PartMut.{put_mid, Post-is}
 use Rattle.sbc_parameters.specs.Sizes.{frame_length, frame_samples}

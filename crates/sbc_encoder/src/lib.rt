@@ -106,12 +106,11 @@ fn encode_frames(
     ensures encoder { let p = accepted.set in encoder_with p left.new right.new ≡ encoder_after count (encoder_with p left.old right.old) input.now }
     ensures output { let p = accepted.set in let first = encoder_with p left.old right.old in output.new ≡ pack_all p (encoded_frames count first input.now) ++ drop (count * frame_length p) output.old }
 {
-    let set = accepted.set;
-    let samples = set.frame_samples();
-    let length = set.frame_length();
+    let samples = accepted.set.frame_samples();
+    let length = accepted.set.frame_length();
     for i in 0..count {
         encode_frame(
-            set,
+            accepted,
             left,
             right,
             &input[i * samples..],

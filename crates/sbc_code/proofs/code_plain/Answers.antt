@@ -7,10 +7,10 @@ use Rattle.sbc_code.proofs.Chosen.{plain_rows}
 use Rattle.sbc_code.proofs.code_plain.Goals as goal
 
 pub both_factors-requires : goal.both_factors-requires
-both_factors-requires c = (ranges _ c.requires).blocks-high
+both_factors-requires c = (ranges _ c.args.accepted.is_accepted).blocks-high
 
 pub invariant_of-result : goal.invariant_of-result
-invariant_of-result c = record { flags_within = (plain_rows c.args.parameters.blocks c.args.left.now c.args.right.now).2 }
+invariant_of-result c = record { flags_within = (plain_rows c.args.accepted.set.blocks c.args.left.now c.args.right.now).2 }
 
 pub returns : goal.returns
 unfolding plain_coding

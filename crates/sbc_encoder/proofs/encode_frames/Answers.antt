@@ -34,7 +34,6 @@ encode_frame-requires c =
     room c.args.count i _ _ _ c.frame_samples-samples.ensures c.requires.0 (omega arith) in
     let room-left : (i + 1) * size ≤ length c.loop-i.output =
     omega (arith, room c.args.count i _ _ _ c.frame_length-length.ensures c.requires.1 (omega arith), c.loop-i.auto.output) in (
-      c.args.accepted.is_accepted,
       omega (arith, ap length (tail-part (i * samples) input), length-drop (i * samples) input, some_left, suc-mul i samples),
       mid_len (i * size) ((i + 1) * size) c.loop-i.output room-left ∙ omega (arith, suc-mul i size),
     )

@@ -47,21 +47,21 @@ others_is : (p : SbcParameters) (n : ℕ) → n ≡ channels p → p.subbands * 
 others_is p n e = ap (λ (k : ℕ). p.subbands * (k - 1)) e
 
 pub overflow_sub-others : goal.overflow_sub-others
-overflow_sub-others c = omega (arith, c.channels.ensures, (row-sizes _ c.requires.0).channels-low)
+overflow_sub-others c = omega (arith, c.channels.ensures, (row-sizes _ c.args.accepted.is_accepted).channels-low)
 
 pub overflow_mul-others : goal.overflow_mul-others
 overflow_mul-others c =
-    let p : SbcParameters = c.args.parameters in
-    omega (arith, others_is p c.channels.result c.channels.ensures, (row-sizes p c.requires.0).others-high)
+    let p : SbcParameters = c.args.accepted.set in
+    omega (arith, others_is p c.channels.result c.channels.ensures, (row-sizes p c.args.accepted.is_accepted).others-high)
 
 pub put_row-flagged-requires : goal.put_row-flagged-requires
 put_row-flagged-requires c =
-    let p : SbcParameters = c.args.parameters in
-    let r = row-sizes p c.requires.0 in
+    let p : SbcParameters = c.args.accepted.set in
+    let r = row-sizes p c.args.accepted.is_accepted in
     let left : List ℕ = c.args.coding.now.factors.left in
     let right : List ℕ = c.args.coding.now.factors.right in
-    let fits = room p left right c.allocate-widths.result c.allocate-widths.ensures c.requires.0 c.args.coding.now.factors.left_long c.args.coding.now.factors.right_long _
-    c.requires.1 in
+    let fits = room p left right c.allocate-widths.result c.allocate-widths.ensures c.args.accepted.is_accepted c.args.coding.now.factors.left_long c.args.coding.now.factors.right_long _
+    c.requires in
     record {
       short = omega arith;
       few = omega (arith, c.join_count-joins.ensures.0, r.joins-high);
@@ -71,12 +71,12 @@ put_row-flagged-requires c =
 
 pub put_row-half-requires : goal.put_row-half-requires
 put_row-half-requires c =
-    let p : SbcParameters = c.args.parameters in
-    let r = row-sizes p c.requires.0 in
+    let p : SbcParameters = c.args.accepted.set in
+    let r = row-sizes p c.args.accepted.is_accepted in
     let left : List ℕ = c.args.coding.now.factors.left in
     let right : List ℕ = c.args.coding.now.factors.right in
-    let fits = room p left right c.allocate-widths.result c.allocate-widths.ensures c.requires.0 c.args.coding.now.factors.left_long c.args.coding.now.factors.right_long _
-    c.requires.1 in
+    let fits = room p left right c.allocate-widths.result c.allocate-widths.ensures c.args.accepted.is_accepted c.args.coding.now.factors.left_long c.args.coding.now.factors.right_long _
+    c.requires in
     record {
       short = omega arith;
       few = r.subbands-high;
@@ -86,12 +86,12 @@ put_row-half-requires c =
 
 pub put_row-side-requires : goal.put_row-side-requires
 put_row-side-requires c =
-    let p : SbcParameters = c.args.parameters in
-    let r = row-sizes p c.requires.0 in
+    let p : SbcParameters = c.args.accepted.set in
+    let r = row-sizes p c.args.accepted.is_accepted in
     let left : List ℕ = c.args.coding.now.factors.left in
     let right : List ℕ = c.args.coding.now.factors.right in
-    let fits = room p left right c.allocate-widths.result c.allocate-widths.ensures c.requires.0 c.args.coding.now.factors.left_long c.args.coding.now.factors.right_long _
-    c.requires.1 in
+    let fits = room p left right c.allocate-widths.result c.allocate-widths.ensures c.args.accepted.is_accepted c.args.coding.now.factors.left_long c.args.coding.now.factors.right_long _
+    c.requires in
     let others = others_is p c.channels.result c.channels.ensures in
     record {
       short = omega arith;
@@ -114,7 +114,7 @@ pub invariant_of-left : goal.invariant_of-left
 invariant_of-left c =
     let factors = c.args.coding.now.factors in
     record {
-      widths_within = widths_16 c.args.parameters factors.left factors.right c.allocate-widths.result c.allocate-widths.ensures 0;
+      widths_within = widths_16 c.args.accepted.set factors.left factors.right c.allocate-widths.result c.allocate-widths.ensures 0;
       factors_within = factors.left_within;
     }
 
@@ -122,20 +122,20 @@ pub invariant_of-right : goal.invariant_of-right
 invariant_of-right c =
     let factors = c.args.coding.now.factors in
     record {
-      widths_within = widths_16 c.args.parameters factors.left factors.right c.allocate-widths.result c.allocate-widths.ensures 1;
+      widths_within = widths_16 c.args.accepted.set factors.left factors.right c.allocate-widths.result c.allocate-widths.ensures 1;
       factors_within = factors.right_within;
     }
 
 pub put_values-end-requires : goal.put_values-end-requires
 put_values-end-requires c =
-    let p : SbcParameters = c.args.parameters in
+    let p : SbcParameters = c.args.accepted.set in
     let left : List ℕ = c.args.coding.now.factors.left in
     let right : List ℕ = c.args.coding.now.factors.right in
-    let fits = room p left right c.allocate-widths.result c.allocate-widths.ensures c.requires.0 c.args.coding.now.factors.left_long c.args.coding.now.factors.right_long _
-    c.requires.1 in
+    let fits = room p left right c.allocate-widths.result c.allocate-widths.ensures c.args.accepted.is_accepted c.args.coding.now.factors.left_long c.args.coding.now.factors.right_long _
+    c.requires in
     let others = others_is p c.channels.result c.channels.ensures in
     record {
-      few = (ranges p c.requires.0).blocks-high;
+      few = (ranges p c.args.accepted.is_accepted).blocks-high;
       room =
           omega (
             arith,
@@ -153,11 +153,11 @@ put_values-end-requires c =
 
 pub finish-requires : goal.finish-requires
 finish-requires c =
-    let p : SbcParameters = c.args.parameters in
+    let p : SbcParameters = c.args.accepted.set in
     let left : List ℕ = c.args.coding.now.factors.left in
     let right : List ℕ = c.args.coding.now.factors.right in
-    let fits = room p left right c.allocate-widths.result c.allocate-widths.ensures c.requires.0 c.args.coding.now.factors.left_long c.args.coding.now.factors.right_long _
-    c.requires.1 in
+    let fits = room p left right c.allocate-widths.result c.allocate-widths.ensures c.args.accepted.is_accepted c.args.coding.now.factors.left_long c.args.coding.now.factors.right_long _
+    c.requires in
     let others = others_is p c.channels.result c.channels.ensures in
     let end : ℕ = 8 * c.put_values-end.result.at + c.put_values-end.result.held in
     let all : end ≡ body_width p c.allocate-widths.result =
@@ -178,7 +178,7 @@ finish-requires c =
 
 pub returns : goal.returns
 returns c =
-    let p : SbcParameters = c.args.parameters in
+    let p : SbcParameters = c.args.accepted.set in
     let size : length c.put_values-end.new.bytes ≡ frame_length p - 4 =
     omega (
       arith,
@@ -186,7 +186,7 @@ returns c =
       c.put_row-side.auto.bytes,
       c.put_row-half.auto.bytes,
       c.put_row-flagged.auto.bytes,
-      c.requires.1,
+      c.requires,
     )
     in
     let left : List ℕ = c.args.coding.now.factors.left in

@@ -25,27 +25,25 @@ unfolding frame_length
 four p = omega arith
 
 pub bounds-frame-0 : goal.bounds-frame-0
-bounds-frame-0 c = omega (arith, four c.args.parameters)
+bounds-frame-0 c = omega (arith, four c.args.accepted.set)
 
 pub bounds-frame-1 : goal.bounds-frame-1
-bounds-frame-1 c = simp length-set (omega (arith, four c.args.parameters))
+bounds-frame-1 c = simp length-set (omega (arith, four c.args.accepted.set))
 
 pub bounds-frame-2 : goal.bounds-frame-2
-bounds-frame-2 c = simp length-set (omega (arith, four c.args.parameters))
+bounds-frame-2 c = simp length-set (omega (arith, four c.args.accepted.set))
 
 pub slice_bounds-write_body-count : goal.slice_bounds-write_body-count
-slice_bounds-write_body-count c = omega (arith, length-headed c.header-header.result c.args.frame.now, four c.args.parameters)
+slice_bounds-write_body-count c = omega (arith, length-headed c.header-header.result c.args.frame.now, four c.args.accepted.set)
 
 pub slice_bounds-write_body-start : goal.slice_bounds-write_body-start
-slice_bounds-write_body-start c = omega (arith, length-headed c.header-header.result c.args.frame.now, four c.args.parameters)
+slice_bounds-write_body-start c = omega (arith, length-headed c.header-header.result c.args.frame.now, four c.args.accepted.set)
 
 pub write_body-requires : goal.write_body-requires
 write_body-requires c =
     let xs : List ℕ = headed c.header-header.result c.args.frame.now in
-    let long : length xs ≡ frame_length c.args.parameters = length-headed c.header-header.result c.args.frame.now ∙ c.requires.1 in (
-      c.requires.0,
-      ap (λ (l : List ℕ). length l + 4) (tail-part 4 xs) ∙ omega (arith, length-drop 4 xs, long, four c.args.parameters),
-    )
+    let long : length xs ≡ frame_length c.args.accepted.set = length-headed c.header-header.result c.args.frame.now ∙ c.requires in
+    ap (λ (l : List ℕ). length l + 4) (tail-part 4 xs) ∙ omega (arith, length-drop 4 xs, long, four c.args.accepted.set)
 
 pub bounds-frame-3 : goal.bounds-frame-3
 bounds-frame-3 c =
@@ -53,23 +51,23 @@ bounds-frame-3 c =
     let frame : List ℕ = c.args.frame.now in
     let rest : List ℕ = c.write_body.new.body in
     let back : List ℕ = put_mid 4 (length (headed h frame) - 4) (headed h frame) rest in
-    let three : length h ≡ 3 = ap length c.header-header.ensures ∙ length-header c.args.parameters in
+    let three : length h ≡ 3 = ap length c.header-header.ensures ∙ length-header c.args.accepted.set in
     let long : length back ≡ length h + length (get_or frame 3 0 ∷ rest) =
-    ap length (bodied h frame rest three (omega (arith, four c.args.parameters, c.requires.1))) ∙ length-append h (get_or frame 3 0 ∷ rest)
+    ap length (bodied h frame rest three (omega (arith, four c.args.accepted.set, c.requires))) ∙ length-append h (get_or frame 3 0 ∷ rest)
     in
     omega (arith, long, three)
 
 pub returns : goal.returns
 unfolding coding_bytes
 returns c =
-    let p : SbcParameters = c.args.parameters in
+    let p : SbcParameters = c.args.accepted.set in
     let h : List ℕ = c.header-header.result in
     let frame : List ℕ = c.args.frame.now in
     let rest : List ℕ = c.write_body.new.body in
     let back : List ℕ = put_mid 4 (length (headed h frame) - 4) (headed h frame) rest in
     let three : length h ≡ 3 = ap length c.header-header.ensures ∙ length-header p in
     let came-back : back ≡ header p ++ (get_or frame 3 0 ∷ rest) =
-    bodied h frame rest three (omega (arith, four p, c.requires.1))
+    bodied h frame rest three (omega (arith, four p, c.requires))
     ∙ ap (λ (h : List ℕ). h ++ (get_or frame 3 0 ∷ rest)) c.header-header.ensures
     in
     let check : c.checksum.result ≡ checksum (header p ++ (0 ∷ rest)) (side_bits p) =
