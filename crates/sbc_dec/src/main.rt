@@ -6,7 +6,6 @@
 
 ghost use Rattle.std.specs.Prelude.{◌*◌, ◌≤◌, length};
 
-use codec::Coded;
 use sbc_decoder::SbcDecoder;
 use std::io;
 use stream::{Coder, Stop};
@@ -30,13 +29,9 @@ impl Coder for Decoding {
         ≡ record { answer = gives (progress_of used produced); decoder = new.decoder; output = new.samples }) };
 
     fn code(&mut self, rt: &impl Print, bytes: &[u8]) -> Result<usize, Stop> {
-        match self.decoder.decode(bytes, &mut self.samples) {
-            Coded::Done(progress) => {
-                write_samples(rt, &self.samples[..progress.produced], &mut self.raw)?;
-                Ok(progress.consumed)
-            }
-            Coded::Refused(error) => Err(Stop::Refused(error)),
-        }
+        let progress = self.decoder.decode(bytes, &mut self.samples)?;
+        write_samples(rt, &self.samples[..progress.produced], &mut self.raw)?;
+        Ok(progress.consumed)
     }
 
     // What is held may still be a cut frame, which the decoder then refuses.

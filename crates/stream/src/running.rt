@@ -92,7 +92,7 @@ pub fn told(rt: &impl Eprint, done: Result<(), Stop>) -> io::Result<()>
 {
     match done {
         Ok(()) => Ok(()),
-        Err(Stop::Refused(error)) => report(rt, error.number()),
+        Err(Stop::Refused(error)) => report(rt, u8::from(error)),
         Err(Stop::Failed(error)) => Err(error),
     }
 }
