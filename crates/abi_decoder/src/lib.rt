@@ -4,7 +4,7 @@
 ghost use Rattle.std.specs.Prelude.{◌≡◌};
 ghost use Rattle.codec.specs.Answers.{told};
 ghost use Rattle.sbc_decoder.specs.Decode.{new_decoder};
-ghost use Rattle.abi_decoder.specs.Decoder.{is_blank, is_held, is_decoder, last_in, decoder_in, held_number, held_numbers, state_of};
+ghost use Rattle.abi_decoder.specs.Decoder.{is_held, is_decoder, last_in, decoder_in, held_number, held_numbers, state_of};
 ghost use Rattle.abi_decoder.specs.Decoder.{seek_numbers, decode_state, seek_state, reset_state, finish_state};
 
 use abi_numbers::{
@@ -46,21 +46,13 @@ pub struct SeekNumbers {
 
 // ---- a decoder as numbers. Kept: no enum may cross to C, so the last parameters are a flag with numbers beside it.
 
-// Whether all numbers are 0.
-#[tactic(auto, using(crate::proofs::Decoding::blanks))]
-fn is_blank(numbers: ParameterNumbers) -> bool
-    ensures { result ≡ is_blank numbers }
-{
-    numbers == NO_PARAMETERS
-}
-
 // Whether the numbers stand for the parameters of a last frame, or for none.
-#[tactic(auto, unfolding(crate::specs::Decoder::is_held))]
+#[tactic(auto, using(crate::proofs::Decoding::blanks), unfolding(crate::specs::Decoder::is_held))]
 fn is_held(has_parameters: u8, numbers: ParameterNumbers) -> bool
     ensures { result ≡ is_held has_parameters numbers }
 {
     if has_parameters == 0 {
-        return is_blank(numbers);
+        return numbers == NO_PARAMETERS;
     }
     has_parameters == 1 && is_set(numbers)
 }
@@ -190,6 +182,7 @@ impl DecoderState {
     }
 
     // Says that the input has ended; a state that stands for no decoder stays.
+    // Kept: this and `reset` differ in one call; a function that took the call would have to ask for its contract and be longer than both.
     #[tactic(auto, unfolding(crate::specs::Decoder::finish_state))]
     pub fn finish(&mut self)
         ensures { self.new ≡ finish_state self.old }

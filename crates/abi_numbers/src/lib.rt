@@ -28,6 +28,7 @@ pub struct ParameterNumbers {
 }
 
 // What a decode or encode call gives back: 0 and how much was consumed and produced, or the refusal's number and zeros.
+// Kept: no enum may cross to C, so that a refusal is a number beside zeros, here and in what a look at a header and a seek give back.
 #[repr(C)]
 #[derive(Clone, Copy, Debug, PartialEq, Eq)]
 pub struct CodedNumbers {

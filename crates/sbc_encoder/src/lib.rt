@@ -94,6 +94,7 @@ impl SbcEncoder {
 }
 
 // So many frames, one after the other. The histories are altered where the caller has them.
+// Kept: a frame is encoded from the front of the whole rest, as the definition says; chunks would cut the rest, and a law would have to undo it.
 fn encode_frames(
     accepted: AcceptedSet,
     left: &mut [i16; 80],
@@ -103,8 +104,10 @@ fn encode_frames(
     count: usize,
 )
     requires { (count * frame_samples accepted.set ≤ length input.now) × (count * frame_length accepted.set ≤ length output.old) }
-    ensures encoder { let p = accepted.set in encoder_with p left.new right.new ≡ encoder_after count (encoder_with p left.old right.old) input.now }
-    ensures output { let p = accepted.set in let first = encoder_with p left.old right.old in output.new ≡ pack_all p (encoded_frames count first input.now) ++ drop (count * frame_length p) output.old }
+    ensures encoder { let p = accepted.set in
+        encoder_with p left.new right.new ≡ encoder_after count (encoder_with p left.old right.old) input.now }
+    ensures output { let p = accepted.set in let first = encoder_with p left.old right.old in
+        output.new ≡ pack_all p (encoded_frames count first input.now) ++ drop (count * frame_length p) output.old }
 {
     let samples = accepted.set.frame_samples();
     let length = accepted.set.frame_length();

@@ -11,6 +11,7 @@ use codec::Error;
 use sbc_parameters::{AcceptedSet, SbcParameters};
 
 // A whole frame in front of the input, and whether its byte 3 holds its checksum.
+// Kept: a frame whose checksum differs is whole all the same, and is asked for room before it is refused, so that `good` is no case of a refusal.
 #[derive(Clone, Copy)]
 pub struct WholeFrame {
     pub accepted: AcceptedSet,
