@@ -9,12 +9,14 @@ use native.Mathlib.Omega.{arith}
 use lib.ListN.{length, get_or, take, set, replicate, length-append, length-replicate}
 use lib.Seq.{take_all, take-suc-set, get_or-take, length-take-le}
 use Rattle.laws.specs.Lists.{collect, build}
+use lib.IntN.{ℤ}
+use Rattle.sbc_modes.specs.declared.SbcChannelMode.TheVariants.{Mono, DualChannel, Stereo, JointStereo}
 use Rattle.sbc_parameters.specs.declared.SbcParameters.{SbcParameters}
 use Rattle.sbc_need.specs.Need.{need}
 use Rattle.sbc_share.specs.Share.{share}
 use Rattle.sbc_share.specs.Raised.{lowered}
 use Rattle.sbc_share.proofs.Sharing.{length-share}
-use Rattle.sbc_allocation.specs.Allocate.{channel_needs, left_first, channel_row, table_row}
+use Rattle.sbc_allocation.specs.Allocate.{channel_needs, left_first, channel_row, rows_together, allocate_by, allocate, table_row, allocation_table}
 use Rattle.sbc_allocation.specs.Entries.{entries}
 use Rattle.sbc_allocation.proofs.Rows.{length-channel_needs, length-channel_row}
 
@@ -142,3 +144,34 @@ left_first-at-least m (l ∷ ls) (r ∷ rs) f g zero h = f 0 (omega arith)
 left_first-at-least m (l ∷ ls) (r ∷ rs) f g (suc zero) h = g 0 (omega arith)
 left_first-at-least m (l ∷ ls) (r ∷ rs) f g (suc (suc i)) h =
     left_first-at-least m ls rs (λ j k. f (suc j) (omega arith)) (λ j k. g (suc j) (omega arith)) i (omega arith)
+
+-- ---- the table, by the channel mode
+module _ (p : SbcParameters) (factors : List (List ℕ)) where
+  abbrev left : List ℤ
+  left = channel_needs p (get_or factors 0 [])
+
+  abbrev right : List ℤ
+  right = channel_needs p (get_or factors 1 [])
+
+  pub table_mono : p.channel_mode ≡ Mono → allocation_table p factors ≡ table_row (share left p.bitpool) ∷ table_row [] ∷ []
+  unfolding allocation_table allocate allocate_by
+  table_mono e = rw e
+
+  pub table_dual : p.channel_mode ≡ DualChannel
+      → allocation_table p factors ≡ table_row (share left p.bitpool) ∷ table_row (share right p.bitpool) ∷ []
+  unfolding allocation_table allocate allocate_by
+  table_dual e = rw e
+
+  pub table_stereo : p.channel_mode ≡ Stereo → allocation_table p factors ≡ map table_row (rows_together p.bitpool left right)
+  unfolding allocation_table allocate allocate_by rows_together
+  table_stereo e = rw e
+
+  pub table_joint : p.channel_mode ≡ JointStereo → allocation_table p factors ≡ map table_row (rows_together p.bitpool left right)
+  unfolding allocation_table allocate allocate_by rows_together
+  table_joint e = rw e
+
+pub row_none : table_row [] ≡ replicate 8 0
+unfolding table_row
+row_none = refl
+
+pub ruleset table_cases = (table_mono, table_dual, table_stereo, table_joint, row_none)

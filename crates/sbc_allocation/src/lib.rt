@@ -1,8 +1,7 @@
 // The bit allocation of SBC: the needs of each channel's subbands, and the bitpool shared among those of a group.
 #![tactic(auto)]
 
-ghost use Rattle.std.specs.Prelude.{◌≡◌, not, [], ◌∷◌, map, ℕ, ◌+◌, ◌*◌, ◌/◌, ◌%◌, ◌≤◌, ◌<◌, min, get_or, take};
-ghost use Rattle.sbc_modes.specs.Modes.{separate};
+ghost use Rattle.std.specs.Prelude.{◌≡◌, [], ◌∷◌, map, ℕ, ◌+◌, ◌*◌, ◌/◌, ◌%◌, ◌≤◌, ◌<◌, min, get_or, take};
 ghost use Rattle.sbc_parameters.specs.Header.{frequency_index};
 ghost use Rattle.sbc_need.specs.Need.{need};
 ghost use Rattle.sbc_share.specs.Share.{share};
@@ -10,7 +9,6 @@ ghost use Rattle.sbc_share.specs.Raised.{lowered};
 ghost use Rattle.sbc_allocation.specs.Allocate.{channel_needs, rows_together, table_row, allocation_table};
 ghost use Rattle.sbc_allocation.specs.Entries.{entries};
 
-use laws::wide;
 use sbc_modes::SbcChannelMode;
 use sbc_need::need_at;
 use sbc_parameters::SbcParameters;
@@ -28,11 +26,7 @@ fn raised_need(parameters: SbcParameters, frequency: usize, scale_factor: u8, su
 fn used_subbands(parameters: SbcParameters) -> usize
     ensures { result ≡ min parameters.subbands 8 }
 {
-    if parameters.subbands < 8 {
-        parameters.subbands as usize
-    } else {
-        8
-    }
+    parameters.subbands.min(8) as usize
 }
 
 // The needs of a channel's subbands, 32 higher.
@@ -42,10 +36,8 @@ fn channel_needs(parameters: SbcParameters, scale_factors: [u8; 8]) -> [u32; 8]
     let mut needs = [0u32; 8];
     let subbands = used_subbands(parameters);
     let frequency = parameters.frequency_index();
-    let mut i = 0;
-    while i < subbands {
+    for i in 0..subbands {
         needs[i] = raised_need(parameters, frequency, scale_factors[i], i);
-        i += 1;
     }
     needs
 }
@@ -60,30 +52,20 @@ fn both_channels(left: [u32; 8], right: [u32; 8]) -> [u32; 16]
     ]
 }
 
-// The bits of a channel by itself.
-fn first_row(bits: [u8; 16]) -> [u8; 8]
-    ensures { result ≡ entries 8 (λ i. get_or bits i 0) }
+// A channel's bits: of a group's, every `step`th from the first on.
+fn row_of(bits: [u8; 16], first: usize, step: usize) -> [u8; 8]
+    requires { (first < step) × (step ≤ 2) }
+    ensures { result ≡ entries 8 (λ i. get_or bits (step * i + first) 0) }
 {
     [
-        bits[0], bits[1], bits[2], bits[3], bits[4], bits[5], bits[6], bits[7],
-    ]
-}
-
-// The left channel's bits, of both.
-fn left_row(bits: [u8; 16]) -> [u8; 8]
-    ensures { result ≡ entries 8 (λ i. get_or bits (2 * i) 0) }
-{
-    [
-        bits[0], bits[2], bits[4], bits[6], bits[8], bits[10], bits[12], bits[14],
-    ]
-}
-
-// The right channel's bits, of both.
-fn right_row(bits: [u8; 16]) -> [u8; 8]
-    ensures { result ≡ entries 8 (λ i. get_or bits (2 * i + 1) 0) }
-{
-    [
-        bits[1], bits[3], bits[5], bits[7], bits[9], bits[11], bits[13], bits[15],
+        bits[first],
+        bits[step + first],
+        bits[step * 2 + first],
+        bits[step * 3 + first],
+        bits[step * 4 + first],
+        bits[step * 5 + first],
+        bits[step * 6 + first],
+        bits[step * 7 + first],
     ]
 }
 
@@ -97,7 +79,8 @@ fn allocate_channel(parameters: SbcParameters, scale_factors: [u8; 8]) -> [u8; 8
         return [0u8; 8];
     }
     let needs = channel_needs(parameters, scale_factors);
-    first_row(share_bits(&needs[..subbands], wide(parameters.bitpool)))
+    let bits = share_bits(&needs[..subbands], u32::from(parameters.bitpool));
+    row_of(bits, 0, 1)
 }
 
 // The rows of both channels, which are one group.
@@ -112,35 +95,25 @@ fn allocate_channels(parameters: SbcParameters, left: [u8; 8], right: [u8; 8]) -
     let left_needs = channel_needs(parameters, left);
     let right_needs = channel_needs(parameters, right);
     let needs = both_channels(left_needs, right_needs);
-    let bits = share_bits(&needs[..2 * subbands], wide(parameters.bitpool));
-    [left_row(bits), right_row(bits)]
-}
-
-// Whether both channels share one bitpool.
-fn is_shared(mode: SbcChannelMode) -> bool
-    ensures { result ≡ not (separate mode) }
-{
-    match mode {
-        SbcChannelMode::Mono => false,
-        SbcChannelMode::DualChannel => false,
-        SbcChannelMode::Stereo => true,
-        SbcChannelMode::JointStereo => true,
-    }
+    let bits = share_bits(&needs[..2 * subbands], u32::from(parameters.bitpool));
+    [row_of(bits, 0, 2), row_of(bits, 1, 2)]
 }
 
 // The bits of each channel's subbands, from their scale factors; entries that the parameters do not use are 0.
+// Kept: two rows of eight, whatever the set has, since the codec keeps to fixed memory.
+#[tactic(auto, using(crate::proofs::Tables::table_cases))]
 pub fn allocate(parameters: SbcParameters, scale_factors: [[u8; 8]; 2]) -> [[u8; 8]; 2]
     ensures { result ≡ allocation_table parameters scale_factors }
 {
-    let mode = parameters.channel_mode;
-    let left = scale_factors[0];
-    let right = scale_factors[1];
-    if is_shared(mode) {
-        return allocate_channels(parameters, left, right);
+    let [left, right] = scale_factors;
+    match parameters.channel_mode {
+        SbcChannelMode::Mono => [allocate_channel(parameters, left), [0u8; 8]],
+        SbcChannelMode::DualChannel => [
+            allocate_channel(parameters, left),
+            allocate_channel(parameters, right),
+        ],
+        SbcChannelMode::Stereo | SbcChannelMode::JointStereo => {
+            allocate_channels(parameters, left, right)
+        }
     }
-    let first = allocate_channel(parameters, left);
-    if parameters.channels() == 1 {
-        return [first, [0u8; 8]];
-    }
-    [first, allocate_channel(parameters, right)]
 }

@@ -5,8 +5,8 @@ use mathlib.Core.Bool.{Bool, true, ◌&&◌}
 use mathlib.Core.List.{List, [], ◌∷◌}
 use Prim.Native.Nat.{ℕ, zero, suc, ◌+◌, ◌-◌, ◌/◌, ◌≤◌, zero-le}
 use native.Mathlib.Omega.{arith}
-use lib.Dec.{leb, eqb, lit≤}
-use lib.ListN.{length, get_or, get_or-eq_default}
+use lib.Dec.{leb, eqb}
+use lib.ListN.{get_or}
 use lib.IntN.{ℤ, pos, negsuc, ◌+ℤ◌, ◌-ℤ◌}
 use lib.Signed.{mag}
 use borrow.Author.Tests.{leb-true}
@@ -47,29 +47,6 @@ offset-small p subband =
     (eqb p.subbands 4) loudness_offsets4 loudness_offsets8
     (λ e. in_table loudness_offsets4 refl (frequency_index p) subband)
     (λ e. in_table loudness_offsets8 refl (frequency_index p) subband)
-
--- past a table's subbands there is no entry
-narrow4 : (f : ℕ) → length (get_or loudness_offsets4 f []) ≤ 4
-unfolding loudness_offsets4
-narrow4 zero = lit≤ tt
-narrow4 (suc zero) = lit≤ tt
-narrow4 (suc (suc zero)) = lit≤ tt
-narrow4 (suc (suc (suc zero))) = lit≤ tt
-narrow4 (suc (suc (suc (suc f)))) = lit≤ tt
-
-narrow8 : (f : ℕ) → length (get_or loudness_offsets8 f []) ≤ 8
-unfolding loudness_offsets8
-narrow8 zero = lit≤ tt
-narrow8 (suc zero) = lit≤ tt
-narrow8 (suc (suc zero)) = lit≤ tt
-narrow8 (suc (suc (suc zero))) = lit≤ tt
-narrow8 (suc (suc (suc (suc f)))) = lit≤ tt
-
-pub past4 : (f subband : ℕ) → 4 ≤ subband → get_or (get_or loudness_offsets4 f []) subband (pos 0) ≡ pos 0
-past4 f subband h = get_or-eq_default (get_or loudness_offsets4 f []) (pos 0) (omega (arith, narrow4 f))
-
-pub past8 : (f subband : ℕ) → 8 ≤ subband → get_or (get_or loudness_offsets8 f []) subband (pos 0) ≡ pos 0
-past8 f subband h = get_or-eq_default (get_or loudness_offsets8 f []) (pos 0) (omega (arith, narrow8 f))
 
 -- ---- a need and 32 is a natural number
 abbrev pub Raises : ℤ → Type 0

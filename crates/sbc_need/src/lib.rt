@@ -4,46 +4,35 @@
 ghost use Rattle.std.specs.Prelude.{◌≡◌, [], ◌≤◌, ◌<◌, get_or, pos};
 ghost use Rattle.std.specs.Int.Signed.{mag};
 ghost use Rattle.sbc_parameters.specs.Header.{frequency_index};
-ghost use Rattle.sbc_tables.specs.Tables.{loudness_offsets4, loudness_offsets8, loudness_offsets};
+ghost use Rattle.sbc_tables.specs.Tables.{loudness_offsets};
 ghost use Rattle.sbc_need.specs.Need.{halved, loudness_need, need};
 
 use sbc_modes::SbcAllocation;
 use sbc_parameters::SbcParameters;
-use sbc_tables::{LOUDNESS_OFFSETS_4, LOUDNESS_OFFSETS_8};
+use sbc_tables::{Bank, Eight, Four};
 
-// The entry of the table for 4 subbands.
-fn offset_4(frequency: usize, subband: usize) -> i32
-    requires { (frequency < 4) × (subband < 4) }
-    ensures { result ≡ get_or (get_or loudness_offsets4 frequency []) subband (pos 0) }
+// The loudness offset of a subband in the table of a bank, and 0 for one past the table.
+fn offset_in<B: Bank>(frequency: usize, subband: usize) -> i32
+    requires { frequency < 4 }
+    ensures { result ≡ get_or (get_or (loudness_offsets B.SUBBANDS) frequency []) subband (pos 0) }
 {
-    let row = LOUDNESS_OFFSETS_4[frequency];
-    row[subband]
-}
-
-// The entry of the table for 8 subbands.
-fn offset_8(frequency: usize, subband: usize) -> i32
-    requires { (frequency < 4) × (subband < 8) }
-    ensures { result ≡ get_or (get_or loudness_offsets8 frequency []) subband (pos 0) }
-{
-    let row = LOUDNESS_OFFSETS_8[frequency];
-    row[subband]
+    B::loudness_offsets(frequency)
+        .get(subband)
+        .copied()
+        .unwrap_or(0)
 }
 
 // The loudness offset of a subband, and 0 for one past the table.
+#[tactic(auto, unfolding(sbc_tables::specs::Tables::loudness_offsets))]
 fn loudness_offset(subbands: u8, frequency: usize, subband: usize) -> i32
     requires { frequency < 4 }
     ensures { result ≡ get_or (get_or (loudness_offsets subbands) frequency []) subband (pos 0) }
 {
     if subbands == 4 {
-        if subband < 4 {
-            return offset_4(frequency, subband);
-        }
-        return 0;
+        offset_in::<Four>(frequency, subband)
+    } else {
+        offset_in::<Eight>(frequency, subband)
     }
-    if subband < 8 {
-        return offset_8(frequency, subband);
-    }
-    0
 }
 
 // Halves a loudness above 0 only; a negative one stays as it is.

@@ -1,36 +1,35 @@
 -- Quantizing without cases: a sample outside the limits is quantized as the limit that it passed, so that the sample raised by the limit
 -- and held between 0 and twice the limit (`held_between`) is all that the formula needs.
 -- Assumes nothing.
-use mathlib.Core.Path.{◌≡◌, refl, sym, ap}
+use mathlib.Core.Path.{◌≡◌, refl, sym, ap, ◌∙◌}
 use mathlib.Core.Bool.{Bool, true, false, false≢true}
 use Prim.Native.Nat.{ℕ, zero, suc, ◌+◌, ◌*◌, ◌/◌, ◌^◌, ◌≤◌, ◌<◌, min}
 use native.Mathlib.Nat.{mul-div_cancel_left, div-le_of_le-mul, mul-le-mul_right, zero-mul, zero-div}
 use native.Mathlib.Omega.{arith}
 use lib.IntN.{ℤ, pos, negsuc, neg_ℤ, nat_abs, ◌+ℤ◌, ◌*ℤ◌}
+use lib.Dec.{ltb}
 use lib.Signed.{le_z, lt_z}
 use lib.Pow.{pow_pos, pow-add}
-use borrow.Author.Tests.{ltb-true, ltb-false, leb-true}
+use borrow.Author.Tests.{ltb-true, ltb-false, leb-true, le-ltb}
 use Rattle.laws.specs.Integers.{floor_div}
+use Rattle.std.specs.Int.{int_max, int_min}
+use Rattle.laws.proofs.Cases.{by-test}
 use Rattle.laws.proofs.Difference.{in-range, sub_cases}
 use Rattle.sbc_quantizer.specs.Quantizing.{quantize, levels}
 use Rattle.sbc_quantizer.specs.Dequantizing.{held_between}
 
--- ---- a number that is held, by the tests of the code
+-- ---- a number that is held: the library's clamp
+from-0 : (k : ℕ) → int_max (pos 0) (pos k) ≡ pos k
+from-0 k = rw (le-ltb k 0 (omega arith)) refl
+
 module _ (m : ℕ) where
-  pub held_low : (z : ℤ) → lt_z z (pos 0) ≡ true → held_between m z ≡ 0
+  pub held_is : (z : ℤ) → int_max (pos 0) (int_min z (pos m)) ≡ pos (held_between m z)
   unfolding held_between
-  held_low (pos n) e = omega (arith, ltb-true n 0 e)
-  held_low (negsuc n) e = refl
-
-  pub held_high : (z : ℤ) → lt_z (pos m) z ≡ true → held_between m z ≡ m
-  unfolding held_between
-  held_high (pos n) e = omega (arith, ltb-true m n e)
-  held_high (negsuc n) e = absurd (false≢true e)
-
-  pub held-within : (z : ℤ) → lt_z z (pos 0) ≡ false → lt_z (pos m) z ≡ false → pos (held_between m z) ≡ z
-  unfolding held_between
-  held-within (pos n) e k = ap pos (omega (arith, ltb-false m n k))
-  held-within (negsuc n) e k = absurd (false≢true (sym e))
+  held_is (pos n) =
+      by-test (λ w. int_max (pos 0) w ≡ pos (min n m)) (ltb m n) (pos m) (pos n)
+      (λ e. let least : m ≡ min n m = omega (arith, ltb-true m n e) in from-0 m ∙ ap pos least)
+      (λ e. let least : n ≡ min n m = omega (arith, ltb-false m n e) in from-0 n ∙ ap pos least)
+  held_is (negsuc n) = refl
 
   pub held-le : (z : ℤ) → held_between m z ≤ m
   unfolding held_between

@@ -1,8 +1,8 @@
 // Scale factors, the quantizer and the dequantizer of SBC's subband samples (document 01, "Quantizing").
 #![tactic(auto)]
 
-ghost use Rattle.std.specs.Prelude.{◌≡◌, ℕ, ◌+◌, ◌-◌, ◌/◌, ◌^◌, ◌≤◌, ◌<◌, pos, negsuc, nat_abs, ◌+ℤ◌, if◌then◌else◌};
-ghost use Rattle.std.specs.Int.Signed.{lt_z, quot_z};
+ghost use Rattle.std.specs.Prelude.{◌≡◌, ℕ, ◌+◌, ◌-◌, ◌/◌, ◌^◌, ◌≤◌, ◌<◌, pos, nat_abs, ◌+ℤ◌};
+ghost use Rattle.std.specs.Int.Signed.{quot_z};
 ghost use Rattle.sbc_quantizer.specs.Quantizing.{scale_factor, levels, quantize, reconstruct};
 ghost use Rattle.sbc_quantizer.specs.Dequantizing.{held_between, dequantizer, Dequantizes};
 
@@ -36,16 +36,11 @@ fn raised(sample: i32, limit: u32) -> i64
 {
     let sum = (sample as i64) + (limit as i64);
     let top = (limit as i64) + (limit as i64);
-    if sum < 0 {
-        return 0;
-    }
-    if top < sum {
-        return top;
-    }
-    sum
+    sum.clamp(0, top)
 }
 
 // The quantized value of a sample.
+// Kept: the factor and the number of bits are two parameters. Callers have them in two rows of a frame: a struct of both would live for one call.
 pub fn quantize(sample: i32, scale_factor: u8, bits: u8) -> u32
     requires { (scale_factor ≤ 15) × (bits ≤ 16) }
     ensures { result ≡ quantize sample scale_factor bits }
@@ -81,24 +76,14 @@ fn reciprocal(bits: u8) -> u32
     }
 }
 
-// -1 for a negative number, else 0.
-fn sign(x: i32) -> i32
-    ensures { result ≡ (if lt_z x (pos 0) then negsuc 0 else pos 0) }
-{
-    if x < 0 {
-        return -1;
-    }
-    0
-}
-
 // x / 2 ^ bits, cut toward zero. A shift rounds down: x - 1 of a negative x gives one less than the quotient. No branch decides which it
 // is, since the signs of a frame are random.
 fn cut(x: i32, bits: u32) -> i32
     requires { (bits < 32) × (nat_abs x < 2 ^ 31) }
     ensures { result ≡ quot_z x (pos (2 ^ bits)) }
 {
-    let below = sign(x);
-    ((x + below) >> bits) - below
+    let below = i32::from(x < 0);
+    ((x - below) >> bits) + below
 }
 
 // Reconstructs the values of one subband, by a multiplication and a shift in place of the division. 0 bits give 0.

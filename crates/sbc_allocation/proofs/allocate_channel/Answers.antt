@@ -58,7 +58,7 @@ pub returns : goal.returns
 returns c =
     let p = c.args.parameters in
     let needs_long : length c.channel_needs-needs.result ≡ 8 = search rules in
-    let bits_long : length c.share_bits.result ≡ 16 = search rules in
-    c.first_row.ensures
+    let bits_long : length c.share_bits-bits.result ≡ 16 = search rules in
+    c.row_of.ensures
     ∙ row_is p c.args.scale_factors c.channel_needs-needs.result c.used_subbands-subbands.result c.used_subbands-subbands.ensures needs_long
-    c.channel_needs-needs.ensures.0 c.share_bits.result c.wide.result bits_long c.wide.ensures.0 c.share_bits.ensures
+    c.channel_needs-needs.ensures.0 c.share_bits-bits.result c.from.result bits_long c.from.ensures c.share_bits-bits.ensures

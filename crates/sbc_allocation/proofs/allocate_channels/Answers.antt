@@ -110,7 +110,7 @@ returns c =
     let wl = needs_of c.args.parameters used.result _ _ used.ensures left_long c.channel_needs-left_needs.ensures in
     let wr = needs_of c.args.parameters used.result _ _ used.ensures right_long c.channel_needs-right_needs.ensures in
     let row = row_is wl wr c.share_bits-bits.result c.args.parameters.bitpool
-    (rw (c.both_channels-needs.ensures, c.wide.ensures.0) at c.share_bits-bits.ensures) in
+    (rw (c.both_channels-needs.ensures, c.from.ensures) at c.share_bits-bits.ensures) in
     ap₂ (λ (l r : List ℕ). l ∷ r ∷ [])
-    (c.left_row.ensures ∙ left-entries c.share_bits-bits.result bits_long ∙ row 0)
-    (c.right_row.ensures ∙ right-entries c.share_bits-bits.result bits_long ∙ row 1)
+    (c.row_of.ensures ∙ left-entries c.share_bits-bits.result bits_long ∙ row 0)
+    (c.row_of-2.ensures ∙ right-entries c.share_bits-bits.result bits_long ∙ row 1)

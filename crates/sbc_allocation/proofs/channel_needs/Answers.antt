@@ -17,7 +17,7 @@ use Rattle.sbc_allocation.proofs.channel_needs.Goals as goal
 
 pub loop-i-init : goal.loop-i-init
 unfolding build collect
-loop-i-init c = (omega arith, refl, (λ j h. absurd (omega arith)), refl)
+loop-i-init c = (refl, (λ j h. absurd (omega arith)), refl)
 
 pub loop-i-preserved : goal.loop-i-preserved
 loop-i-preserved c =
@@ -25,13 +25,12 @@ loop-i-preserved c =
     let l = c.loop-i in
     let n = c.raised_need.result in
     let P : ℕ → Type 0 = λ j. 16 ≤ get_or (set l.needs l.i n) j 0 in
-    let in-needs : l.i < length l.needs = omega (arith, l.invariant.3, used.ensures) in
-    let before : (j : ℕ) → j < l.i → P j = λ j h. omega (arith, get_or-set_other l.needs l.i j n 0 (omega arith), l.invariant.2 j h) in
+    let in-needs : l.i < length l.needs = omega (arith, l.invariant.2, used.ensures) in
+    let before : (j : ℕ) → j < l.i → P j = λ j h. omega (arith, get_or-set_other l.needs l.i j n 0 (omega arith), l.invariant.1 j h) in
     let here : P l.i = omega (arith, get_or-set_same l.needs l.i n 0 in-needs) in (
-      omega arith,
-      needs-step c.args.parameters c.args.scale_factors l.needs l.i n in-needs c.raised_need.ensures.0 l.invariant.1,
+      needs-step c.args.parameters c.args.scale_factors l.needs l.i n in-needs c.raised_need.ensures.0 l.invariant.0,
       below_more P l.i before here,
-      length-set l.needs l.i n ∙ l.invariant.3,
+      length-set l.needs l.i n ∙ l.invariant.2,
     )
 
 pub returns : goal.returns
@@ -43,7 +42,7 @@ returns c =
     let p = c.args.parameters in
     let at : l.i ≡ min p.subbands 8 = omega (arith, used.ensures) in
     let all : min p.subbands 8 ≡ min p.subbands (length c.args.scale_factors) = omega (arith, long) in (
-      ap (λ (n : ℕ). map lowered (take n l.needs)) (sym at) ∙ l.invariant.1
+      ap (λ (n : ℕ). map lowered (take n l.needs)) (sym at) ∙ l.invariant.0
           ∙ ap (λ (n : ℕ). build n (λ j. need p (get_or c.args.scale_factors j 0) j)) (at ∙ all),
-      λ j h. l.invariant.2 j (omega arith),
+      λ j h. l.invariant.1 j (omega arith),
     )

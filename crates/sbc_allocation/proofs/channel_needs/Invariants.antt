@@ -2,7 +2,7 @@
 -- Assumes nothing.
 use mathlib.Core.Path.{◌≡◌}
 use mathlib.Core.List.{map}
-use Prim.Native.Nat.{ℕ, ◌-◌, ◌≤◌, ◌<◌}
+use Prim.Native.Nat.{ℕ, ◌≤◌, ◌<◌}
 use lib.ListN.{length, get_or, take}
 use Rattle.laws.specs.Lists.{build}
 use Rattle.sbc_need.specs.Need.{need}
@@ -11,8 +11,5 @@ use Rattle.sbc_allocation.proofs.channel_needs.Given as goal
 
 abbrev pub invariant-loop-i : goal.invariant-loop-i
 invariant-loop-i l =
-    (l.i ≤ l.subbands) × (map lowered (take l.i l.needs) ≡ build l.i (λ j. need l.parameters (get_or l.scale_factors j 0) j))
+    (map lowered (take l.i l.needs) ≡ build l.i (λ j. need l.parameters (get_or l.scale_factors j 0) j))
     × ((j : ℕ) → j < l.i → 16 ≤ get_or l.needs j 0) × (length l.needs ≡ 8)
-
-abbrev pub decreases-loop-i : goal.decreases-loop-i
-decreases-loop-i l = l.subbands - l.i

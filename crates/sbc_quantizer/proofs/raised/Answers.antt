@@ -1,7 +1,7 @@
--- `sbc_quantizer::raised` meets its contract: both sums fit an i64, so that they are read back from their bits, and the tests
--- are those of `held_between`.
+-- `sbc_quantizer::raised` meets its contract: both sums fit an i64, so that they are read back from their bits, and the
+-- clamp is `held_between`.
 -- Assumes nothing.
-use mathlib.Core.Path.{◌≡◌, sym, ap, ap₂, ◌∙◌}
+use mathlib.Core.Path.{◌≡◌, ap₂, ◌∙◌}
 use Prim.Native.Nat.{ℕ, ◌+◌, ◌^◌, ◌<◌}
 use native.Mathlib.Nat.{le_of_lt}
 use native.Mathlib.Omega.{arith}
@@ -11,7 +11,7 @@ use mir.Syntax.{w32, w64}
 use mir.Val.{SFits, to_z, of_z}
 use mir.Facts.{to_z-of_z, to_z_pos, sfits_widen}
 use Rattle.laws.proofs.Abs.{abs-sfits, sum_fits}
-use Rattle.sbc_quantizer.proofs.Limits.{held_low, held_high, held-within}
+use Rattle.sbc_quantizer.proofs.Limits.{held_is}
 use Rattle.sbc_quantizer.proofs.raised.Goals as goal
 
 module _ (x : ℤ) (n : ℕ) (hx : SFits w32 x) (small : n < 2 ^ 32) where
@@ -40,19 +40,9 @@ module _ (x : ℤ) (n : ℕ) (hx : SFits w32 x) (small : n < 2 ^ 32) where
   read_top : to_z w64 (of_z w64 (to_z w64 n +ℤ to_z w64 n)) ≡ pos (n + n)
   read_top = to_z-of_z top_ok ∙ top
 
-pub returns-then-sum-lt0 : goal.returns-then-sum-lt0
-returns-then-sum-lt0 c =
-    let s = read_sum _ _ c.ranges.sample c.ranges.limit.fits in
-    sym (ap pos (held_low _ _ (rw s at c.if-sum-lt0.true)))
-
-pub returns-then-top-sum : goal.returns-then-top-sum
-returns-then-top-sum c =
-    let s = read_sum _ _ c.ranges.sample c.ranges.limit.fits in
-    let t = read_top _ _ c.ranges.sample c.ranges.limit.fits in
-    t ∙ sym (ap pos (held_high _ _ (rw (s, t) at c.if-top-sum.true)))
-
 pub returns : goal.returns
 returns c =
     let s = read_sum _ _ c.ranges.sample c.ranges.limit.fits in
     let t = read_top _ _ c.ranges.sample c.ranges.limit.fits in
-    s ∙ sym (held-within _ _ (rw s at c.if-sum-lt0.false) (rw (s, t) at c.if-top-sum.false))
+    let held = rw (s, t) at c.clamp.ensures.value in
+    to_z-of_z {w = w64} (record { sfits = c.clamp.type_inv }) ∙ held ∙ held_is _ _

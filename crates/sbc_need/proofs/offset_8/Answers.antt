@@ -1,9 +1,0 @@
--- `sbc_need::offset_8` meets its contract: the constant table is the definition's.
--- Assumes nothing.
-use borrow.Author.Rules.{rules}
-use Rattle.sbc_tables.specs.Tables.{loudness_offsets8}
-use Rattle.sbc_need.proofs.offset_8.Goals as goal
-
-pub returns : goal.returns
-unfolding loudness_offsets8
-returns c = search rules
