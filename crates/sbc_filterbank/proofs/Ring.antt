@@ -24,7 +24,7 @@ use Rattle.sbc_filterbank.proofs.Lengths.{length-modulated}
 pub place-below : {S : ℕ} (slot x : ℕ) → Bands S → slot < 10 → x < 2 * S → 2 * S * slot + x < 160
 place-below slot x b = for-bands (λ s. slot < 10 → x < 2 * s → 2 * s * slot + x < 160) b (λ h p. omega arith) (λ h p. omega arith)
 
-slot-end : {S : ℕ} (n : ℕ) → Bands S → n < 10 → 2 * S * n + 2 * S ≤ 160
+pub slot-end : {S : ℕ} (n : ℕ) → Bands S → n < 10 → 2 * S * n + 2 * S ≤ 160
 slot-end n b = for-bands (λ s. n < 10 → 2 * s * n + 2 * s ≤ 160) b (λ h. omega arith) (λ h. omega arith)
 
 before : {S : ℕ} (t n r : ℕ) → Bands S → t < n → r < 2 * S → 2 * S * t + r < 2 * S * n

@@ -74,13 +74,13 @@ module _ (S : ℕ) (s : ℕ → ℤ) (sums differences : List ℤ) (p : (k : ℕ
 
 -- the sum with the pairs that its row takes
 module _ (S : ℕ) (M sums differences : List ℤ) (m : ℕ) (e : M ≡ synthesis_rows S) where
-  pub row-even : row_odd S m ≡ 0 → sum_z (S / 2) (row_term M sums (m * (S / 2))) ≡ row_sum S sums differences m
+  pub row-even : eqb (row_odd S m) 0 ≡ true → sum_z (S / 2) (row_term M sums (m * (S / 2))) ≡ row_sum S sums differences m
   unfolding row_sum
-  row-even q = rw (eq-eqb (row_odd S m) 0 q) (ap (λ (l : List ℤ). sum_z (S / 2) (row_term l sums (m * (S / 2)))) e)
+  row-even q = rw q (ap (λ (l : List ℤ). sum_z (S / 2) (row_term l sums (m * (S / 2)))) e)
 
-  pub row-uneven : (row_odd S m ≡ 0 → ⊥) → sum_z (S / 2) (row_term M differences (m * (S / 2))) ≡ row_sum S sums differences m
+  pub row-uneven : eqb (row_odd S m) 0 ≡ false → sum_z (S / 2) (row_term M differences (m * (S / 2))) ≡ row_sum S sums differences m
   unfolding row_sum
-  row-uneven q = rw (ne_eqb (row_odd S m) 0 q) (ap (λ (l : List ℤ). sum_z (S / 2) (row_term l differences (m * (S / 2)))) e)
+  row-uneven q = rw q (ap (λ (l : List ℤ). sum_z (S / 2) (row_term l differences (m * (S / 2)))) e)
 
 -- ---- every row of V comes from a row of the matrix, with a sign of 1, 0 or -1
 pub source-below : {S : ℕ} (r : ℕ) → Bands S → r < 2 * S → row_source S r < S
@@ -134,16 +134,17 @@ module _ {S : ℕ} (input sums differences rows : List ℤ) (b : Bands S)
   unfolding row_value modulated_at
   row-value-is = ap (λ z. clamp_z w32 (floor_div z (2 ^ 30))) signed-row-is
 
--- ---- a pair, by its cases, and its bound
+-- ---- a pair, the sum or the difference, and its bound
+module _ (S : ℕ) (s : ℕ → ℤ) (n : ℕ) where
+  pub pair-sum : pair_of S 0 s n ≡ s n +ℤ s (S - 1 - n)
+  unfolding pair_of
+  pair-sum = ap (λ z. s n +ℤ z) (one-*ℤ (s (S - 1 - n)))
+
+  pub pair-difference : pair_of S 1 s n ≡ s n -ℤ s (S - 1 - n)
+  unfolding pair_of
+  pair-difference = ap (λ z. s n +ℤ z) (minus-one-*ℤ (s (S - 1 - n)))
+
 module _ (S : ℕ) (s : ℕ → ℤ) (odd n : ℕ) where
-  pub pair-even : odd ≡ 0 → pair_of S odd s n ≡ s n +ℤ s (S - 1 - n)
-  unfolding pair_of
-  pair-even e = rw (eq-eqb odd 0 e) (ap (λ z. s n +ℤ z) (one-*ℤ (s (S - 1 - n))))
-
-  pub pair-odd : (odd ≡ 0 → ⊥) → pair_of S odd s n ≡ s n -ℤ s (S - 1 - n)
-  unfolding pair_of
-  pair-odd ne = rw (ne_eqb odd 0 ne) (ap (λ z. s n +ℤ z) (minus-one-*ℤ (s (S - 1 - n))))
-
   pair-bound : ((k : ℕ) → nat_abs (s k) ≤ 2 ^ 29) → nat_abs (pair_of S odd s n) ≤ 2 ^ 30
   unfolding pair_of
   pair-bound w =

@@ -1,46 +1,48 @@
 // The vector that the samples of the subbands give in synthesis: sums and differences of samples times the cosines of a matrix, and each
 // row of the vector from a row of the matrix.
 //
-// Each loop is written once, over the number of subbands; the caller hands it down as a literal, so that the compiler makes a loop of known
-// length for each.
+// Each loop is written once, over the filterbank's type, so that the compiler makes a loop of known length for 4 subbands and for 8.
 #![tactic(auto)]
 
 mod matrices;
 
-ghost use Rattle.std.specs.Prelude.{◌≡◌, ◌+◌, ◌*◌, ◌/◌, ◌^◌, ◌≤◌, ◌<◌, get_or, pos};
+ghost use Rattle.std.specs.Prelude.{◌≡◌, ◌+◌, ◌*◌, ◌/◌, ◌^◌, ◌≤◌, ◌<◌, eqb, get_or, pos};
 ghost use Rattle.laws.specs.Lists.{build};
 ghost use Rattle.laws.specs.Integers.{Within};
 ghost use Rattle.laws.specs.Sums.{sum_z, up_to, overwrite};
-ghost use Rattle.sbc_filterbank.specs.Subbands.{Bands};
 ghost use Rattle.sbc_filterbank.specs.Matrices.{Part};
-ghost use Rattle.sbc_modulate.specs.Fold.{pair_of, row_odd, synthesis_rows, row_term, row_sum, row_source, row_sign, row_value};
+ghost use Rattle.sbc_modulate.specs.Fold.{pair_of, row_odd, row_term, row_sum, row_source, row_sign, row_value};
 
-pub use matrices::{SYNTHESIS_4_ROWS, SYNTHESIS_8_ROWS, rows_of_4, rows_of_8};
+pub use matrices::SynthesisBank;
+use sbc_tables::Bank;
 
-// s[n] with its mirror added (`odd` 0), or subtracted (1). The cosines of a row are equal or opposite at the two, so each product serves
-// both.
-fn pair(input: &[i32; 8], subbands: usize, odd: usize, n: usize) -> i32
-    requires { (Bands subbands) × (n < subbands / 2) × (Within (2 ^ 29) input.now) }
-    ensures { result ≡ pair_of subbands odd (λ k. get_or input.now k (pos 0)) n }
-{
-    let left = input[n];
-    let right = input[subbands - 1 - n];
-    if odd == 0 {
-        return left + right;
-    }
-    left - right
+// The S/2 sums of the samples with their mirrors, and the S/2 differences. The cosines of a row are equal or opposite at a sample and its
+// mirror, so each product serves both.
+#[derive(Drop)]
+pub struct Pairs {
+    pub sums: [i32; 4],
+    pub differences: [i32; 4],
+    pub ghost sums_small: { Within (2 ^ 30) sums },
+    pub ghost differences_small: { Within (2 ^ 30) differences },
 }
 
-// The S/2 sums, or the S/2 differences.
-pub fn pair_all(input: &[i32; 8], subbands: usize, odd: usize) -> [i32; 4]
-    requires { (Bands subbands) × (Within (2 ^ 29) input.now) }
-    ensures { result ≡ build 4 (up_to (subbands / 2) (pair_of subbands odd (λ k. get_or input.now k (pos 0)))) }
+// The pairs of a block's samples.
+pub fn pair_all<B: Bank>(input: &[i32; 8]) -> Pairs
+    requires { Within (2 ^ 29) input.now }
+    ensures sums { result.sums ≡ build 4 (up_to (B.SUBBANDS / 2) (pair_of B.SUBBANDS 0 (λ k. get_or input.now k (pos 0)))) }
+    ensures differences { result.differences
+        ≡ build 4 (up_to (B.SUBBANDS / 2) (pair_of B.SUBBANDS 1 (λ k. get_or input.now k (pos 0)))) }
 {
-    let mut pairs = [0i32; 4];
+    let subbands = B::SUBBANDS;
+    let mut sums = [0i32; 4];
+    let mut differences = [0i32; 4];
     for n in 0..subbands / 2 {
-        pairs[n] = pair(input, subbands, odd, n);
+        let left = input[n];
+        let right = input[subbands - 1 - n];
+        sums[n] = left + right;
+        differences[n] = left - right;
     }
-    pairs
+    Pairs { sums, differences }
 }
 
 // `count` entries of the matrix, from `at` on, times the pairs.
@@ -56,47 +58,46 @@ fn row_sum(matrix: &[i32], pairs: &[i32; 4], at: usize, count: usize) -> i64
 }
 
 // Row m of the matrix, times the sums or the differences.
-fn row(matrix: &[i32], sums: &[i32; 4], differences: &[i32; 4], subbands: usize, m: usize) -> i64
-    requires { (Bands subbands) × (m < subbands) × (matrix.now ≡ synthesis_rows subbands)
-        × (Within (2 ^ 30) sums.now) × (Within (2 ^ 30) differences.now) }
-    ensures { result ≡ row_sum subbands sums.now differences.now m }
+fn row<B: SynthesisBank>(pairs: &Pairs, m: usize) -> i64
+    requires { m < B.SUBBANDS }
+    ensures { result ≡ row_sum B.SUBBANDS pairs.now.sums pairs.now.differences m }
 {
-    let half = subbands / 2;
-    if row_odd(subbands, m) == 0 {
-        return row_sum(matrix, sums, m * half, half);
+    let half = B::SUBBANDS / 2;
+    if takes_sums::<B>(m) {
+        return row_sum(B::rows(), &pairs.sums, m * half, half);
     }
-    row_sum(matrix, differences, m * half, half)
+    row_sum(B::rows(), &pairs.differences, m * half, half)
 }
 
-// 0 if row m takes the sums, and 1 if it takes the differences. The matrix leaves out the rows that mirror others.
-fn row_odd(subbands: usize, m: usize) -> usize
-    requires { (subbands ≤ 8) × (m < subbands) }
-    ensures { result ≡ row_odd subbands m }
+// Whether row m takes the sums; the others take the differences. The matrix leaves out the rows that mirror others.
+fn takes_sums<B: Bank>(m: usize) -> bool
+    requires { m < B.SUBBANDS }
+    ensures { result ≡ eqb (row_odd B.SUBBANDS m) 0 }
 {
-    let half = subbands / 2;
+    let half = B::SUBBANDS / 2;
     if m < half {
-        return (m + half) % 2;
+        return (m + half) % 2 == 0;
     }
-    (m + half + 1 + half) % 2
+    (m + half + 1 + half) % 2 == 0
 }
 
 // The S rows.
-pub fn row_all(matrix: &[i32], sums: &[i32; 4], differences: &[i32; 4], subbands: usize) -> [i64; 8]
-    requires { (Bands subbands) × (matrix.now ≡ synthesis_rows subbands) × (Within (2 ^ 30) sums.now) × (Within (2 ^ 30) differences.now) }
-    ensures { result ≡ build 8 (up_to subbands (row_sum subbands sums.now differences.now)) }
+pub fn row_all<B: SynthesisBank>(pairs: &Pairs) -> [i64; 8]
+    ensures { result ≡ build 8 (up_to B.SUBBANDS (row_sum B.SUBBANDS pairs.now.sums pairs.now.differences)) }
 {
     let mut rows = [0i64; 8];
-    for m in 0..subbands {
-        rows[m] = row(matrix, sums, differences, subbands, m);
+    for m in 0..B::SUBBANDS {
+        rows[m] = row::<B>(pairs, m);
     }
     rows
 }
 
 // The row of the matrix that gives row r of V: the row itself, or one that it mirrors.
-fn row_source(subbands: usize, r: usize) -> usize
-    requires { (Bands subbands) × (r < 2 * subbands) }
-    ensures { result ≡ row_source subbands r }
+fn row_source<B: Bank>(r: usize) -> usize
+    requires { r < 2 * B.SUBBANDS }
+    ensures { result ≡ row_source B.SUBBANDS r }
 {
+    let subbands = B::SUBBANDS;
     let half = subbands / 2;
     if r < half {
         return r;
@@ -111,9 +112,10 @@ fn row_source(subbands: usize, r: usize) -> usize
 }
 
 // The sign that row r of V has from there. Row S/2 is 0.
-fn row_sign(subbands: usize, r: usize) -> i64
-    ensures { result ≡ row_sign subbands r }
+fn row_sign<B: Bank>(r: usize) -> i64
+    ensures { result ≡ row_sign B.SUBBANDS r }
 {
+    let subbands = B::SUBBANDS;
     let half = subbands / 2;
     if r == half {
         return 0;
@@ -128,21 +130,21 @@ fn row_sign(subbands: usize, r: usize) -> i64
 }
 
 // V[r]. The sign goes on before the division, which rounds down: a row divided and then negated would be rounded up.
-fn modulate(rows: &[i64; 8], subbands: usize, r: usize) -> i32
-    requires { (Bands subbands) × (r < 2 * subbands) × (Within (2 ^ 62) rows.now) }
-    ensures { result ≡ row_value subbands rows.now r }
+fn modulate<B: Bank>(rows: &[i64; 8], r: usize) -> i32
+    requires { (r < 2 * B.SUBBANDS) × (Within (2 ^ 62) rows.now) }
+    ensures { result ≡ row_value B.SUBBANDS rows.now r }
 {
-    let source = row_source(subbands, r);
-    let sign = row_sign(subbands, r);
+    let source = row_source::<B>(r);
+    let sign = row_sign::<B>(r);
     laws::clamp_i32((sign * rows[source]) >> 30)
 }
 
 // V into the ring, from `at` on.
-pub fn push(values: &mut [i32; 160], rows: &[i64; 8], subbands: usize, at: usize)
-    requires { (Bands subbands) × (at + 2 * subbands ≤ 160) × (Within (2 ^ 62) rows.now) }
-    ensures { values.new ≡ overwrite at (2 * subbands) (row_value subbands rows.now) values.old }
+pub fn push<B: Bank>(values: &mut [i32; 160], rows: &[i64; 8], at: usize)
+    requires { (at + 2 * B.SUBBANDS ≤ 160) × (Within (2 ^ 62) rows.now) }
+    ensures { values.new ≡ overwrite at (2 * B.SUBBANDS) (row_value B.SUBBANDS rows.now) values.old }
 {
-    for r in 0..2 * subbands {
-        values[at + r] = modulate(rows, subbands, r);
+    for r in 0..2 * B::SUBBANDS {
+        values[at + r] = modulate::<B>(rows, r);
     }
 }

@@ -17,7 +17,7 @@ use Rattle.laws.proofs.Lists.{get_or-build, build-is}
 use Rattle.laws.proofs.Arrays.{filled-ext, get_or-filled, overwrite-ext}
 use Rattle.sbc_filterbank.specs.Subbands.{Bands, padded}
 use Rattle.sbc_filterbank.specs.Synthesis.{modulated_at, modulated, vector_place, rounded, synthesis_outputs}
-use Rattle.sbc_filterbank.specs.Ring.{ring, next_slot, ring_pushed}
+use Rattle.sbc_filterbank.specs.Ring.{next_slot, ring_pushed}
 use Rattle.sbc_modulate.specs.Fold.{pair_of, row_sum, row_value}
 use Rattle.sbc_synthesize.specs.Summing.{OutputSums}
 use Rattle.sbc_filterbank.proofs.Bands.{for-bands, bands-le, padded-is}
@@ -39,35 +39,37 @@ pub place-in-below : {S : ℕ} (b j : ℕ) → j < S → vector_place S j b < 2 
 place-in-below {S} b j h = subst (λ (n : ℕ). n < 2 * S) (place_is S j b) (row_below b j h)
 
 -- as if the slots went on: the place is below 320; up to the tenth slot it is the ring's, and past it 20 S too far
-pub place-ahead : {S : ℕ} (newest j b : ℕ) → Bands S → newest < 10 → j < S → b < 10 → 2 * S * (newest + b) + (b % 2 * S + j) < 320
-place-ahead newest j b s =
-    for-bands (λ s. newest < 10 → j < s → b < 10 → 2 * s * (newest + b) + (b % 2 * s + j) < 320) s (λ n l h. omega arith)
-    (λ n l h. omega arith)
+pub place-ahead : {S : ℕ} (newest b : ℕ) → Bands S → newest < 10 → b < 10 → 2 * S * (newest + b) + b % 2 * S < 320
+place-ahead newest b s =
+    for-bands (λ s. newest < 10 → b < 10 → 2 * s * (newest + b) + b % 2 * s < 320) s (λ n h. omega arith) (λ n h. omega arith)
 
 -- the tap of output j and vector b
 pub tap-below : {S : ℕ} (j b : ℕ) → Bands S → j < S → b < 10 → b * S + j < 10 * S
 tap-below j b s = for-bands (λ s. j < s → b < 10 → b * s + j < 10 * s) s (λ l h. omega arith) (λ l h. omega arith)
 
 pub place-first : {S : ℕ} (newest j b : ℕ) → Bands S → j < S → newest + b < 10
-    → (2 * S * (newest + b) + (b % 2 * S + j) ≡ 2 * S * ((newest + b) % 10) + vector_place S j b)
-    × (2 * S * (newest + b) + (b % 2 * S + j) < 160)
+    → (2 * S * (newest + b) + b % 2 * S + j ≡ 2 * S * ((newest + b) % 10) + vector_place S j b)
+    × (2 * S * (newest + b) + b % 2 * S + j < 160)
 place-first {S} newest j b s l h =
     let e : newest + b ≡ (newest + b) % 10 = omega arith in
-    (ap₂ (λ (n m : ℕ). 2 * S * n + m) e (place_is S j b), place-below (newest + b) _ s h (row_below b j l))
+    let t : 2 * S * (newest + b) + b % 2 * S + j ≡ 2 * S * (newest + b) + (b % 2 * S + j) = omega arith in (
+      t ∙ ap₂ (λ (n m : ℕ). 2 * S * n + m) e (place_is S j b),
+      subst (λ (x : ℕ). x < 160) (sym t) (place-below (newest + b) _ s h (row_below b j l)),
+    )
 
-pub place-past : {S : ℕ} (newest j b : ℕ) → Bands S → 10 ≤ newest + b → 20 * S ≤ 2 * S * (newest + b) + (b % 2 * S + j)
-place-past newest j b s h =
-    for-bands (λ s. 20 * s ≤ 2 * s * (newest + b) + (b % 2 * s + j)) s (omega arith) (omega arith)
+pub place-past : {S : ℕ} (newest b : ℕ) → Bands S → 10 ≤ newest + b → 20 * S ≤ 2 * S * (newest + b) + b % 2 * S
+place-past newest b s h = for-bands (λ s. 20 * s ≤ 2 * s * (newest + b) + b % 2 * s) s (omega arith) (omega arith)
 
 back : {S : ℕ} (slot x : ℕ) → Bands S → 10 ≤ slot → 2 * S * slot + x - 20 * S ≡ 2 * S * (slot - 10) + x
 back slot x b h = for-bands (λ s. 2 * s * slot + x - 20 * s ≡ 2 * s * (slot - 10) + x) b (omega arith) (omega arith)
 
 pub place-back : {S : ℕ} (newest j b : ℕ) → Bands S → newest < 10 → j < S → b < 10 → 10 ≤ newest + b
-    → (2 * S * (newest + b) + (b % 2 * S + j) - 20 * S ≡ 2 * S * ((newest + b) % 10) + vector_place S j b)
-    × (2 * S * (newest + b) + (b % 2 * S + j) - 20 * S < 160)
+    → (2 * S * (newest + b) + b % 2 * S - 20 * S + j ≡ 2 * S * ((newest + b) % 10) + vector_place S j b)
+    × (2 * S * (newest + b) + b % 2 * S - 20 * S + j < 160)
 place-back {S} newest j b s n l m h =
     let e : newest + b - 10 ≡ (newest + b) % 10 = omega arith in
-    let t = back (newest + b) (b % 2 * S + j) s h in (
+    let t : 2 * S * (newest + b) + b % 2 * S - 20 * S + j ≡ 2 * S * (newest + b - 10) + (b % 2 * S + j) =
+    ap (λ (x : ℕ). x + j) (back (newest + b) (b % 2 * S) s h) ∙ omega arith in (
       t ∙ ap₂ (λ (n m : ℕ). 2 * S * n + m) e (place_is S j b),
       subst (λ (x : ℕ). x < 160) (sym t) (place-below (newest + b - 10) _ s (omega arith) (row_below b j l)),
     )
@@ -88,18 +90,14 @@ unfolding synthesis_outputs
 outputs-of {S} vs sums out b e o =
     o ∙ filled-ext 8 S _ _ (λ k h. ap (rounded S) (get_or-filled 8 S _ sums k e.0 h (bands-le b))) ∙ padded-is _ _ (bands-le b)
 
--- ---- a block of synthesis, from what its steps give
-pub block_of : {S : ℕ} (input sums differences rows old values totals out : List ℤ) (newest slot : ℕ) → Bands S
+-- ---- the ring after a block, from what the code's steps give
+pub vector-pushed : {S : ℕ} (input sums differences rows old values : List ℤ) (newest slot : ℕ) → Bands S
     → sums ≡ build 4 (up_to (S / 2) (pair_of S 0 (λ k. get_or input k (pos 0))))
     → differences ≡ build 4 (up_to (S / 2) (pair_of S 1 (λ k. get_or input k (pos 0))))
     → rows ≡ build 8 (up_to S (row_sum S sums differences)) → slot ≡ next_slot newest
-    → values ≡ overwrite (2 * S * slot) (2 * S) (row_value S rows) old → OutputSums S (ring S values slot) 10 totals
-    → out ≡ build 8 (up_to S (λ j. rounded S (get_or totals j (pos 0))))
-    → (values ≡ ring_pushed S (modulated S input) old newest) × (out ≡ padded (synthesis_outputs S (ring S values (next_slot newest))))
+    → values ≡ overwrite (2 * S * slot) (2 * S) (row_value S rows) old → values ≡ ring_pushed S (modulated S input) old newest
 unfolding ring_pushed modulated
-block_of {S} input sums differences rows old values totals out newest slot b p q e n x t y = (
-  x ∙ ap (λ (k : ℕ). overwrite (2 * S * k) (2 * S) (row_value S rows) old) n
-      ∙ overwrite-ext (2 * S * next_slot newest) (2 * S) _ _ old
-      (λ r h. row-value-is input sums differences rows b p q e r h ∙ sym (get_or-build (2 * S) (modulated_at S input) r (pos 0) h)),
-  outputs-of (ring S values slot) totals out b t y ∙ ap (λ (k : ℕ). padded (synthesis_outputs S (ring S values k))) n,
-)
+vector-pushed {S} input sums differences rows old values newest slot b p q e n x =
+    x ∙ ap (λ (k : ℕ). overwrite (2 * S * k) (2 * S) (row_value S rows) old) n
+    ∙ overwrite-ext (2 * S * next_slot newest) (2 * S) _ _ old
+    (λ r h. row-value-is input sums differences rows b p q e r h ∙ sym (get_or-build (2 * S) (modulated_at S input) r (pos 0) h))

@@ -2,7 +2,7 @@
 -- Assumes nothing.
 use Prim.Native.Nat.{ℕ, suc, ◌+◌, ◌*◌, ◌-◌, ◌/◌, ◌^◌, ◌≤◌, ◌<◌}
 use mathlib.Core.Bool.{Bool, true, false}
-use mathlib.Core.Path.{◌≡◌, refl, sym, ap, ◌∙◌}
+use mathlib.Core.Path.{◌≡◌, refl, sym, ap, ◌∙◌, subst}
 use native.Mathlib.Nat.{le_refl, le_trans, add-le-add}
 use native.Mathlib.Omega.{arith}
 use lib.Dec.{ltb, lit≤, lit<}
@@ -14,8 +14,10 @@ use Rattle.laws.specs.Integers.{floor_div, clamp_z}
 use Rattle.laws.proofs.Abs.{nat_abs-+, nat_abs--, within-fits, sum_fits, difference-fits}
 use Rattle.laws.proofs.Difference.{sub-of-le, sub-of-lt}
 use Rattle.laws.proofs.Floor.{nat_abs-floor}
+use Rattle.sbc_filterbank.specs.Subbands.{Bands}
 use Rattle.sbc_filterbank.specs.Synthesis.{rounding_bits, rounded}
 use Rattle.sbc_synthesize.specs.Summing.{output_bound}
+use Rattle.sbc_filterbank.proofs.Bands.{for-bands}
 
 pub negated-sum : (z : ℤ) → nat_abs z ≤ output_bound → SFits w64 (pos 0 -ℤ z)
 negated-sum z h = difference-fits w64 {a = 0} {b = output_bound} (pos 0) z (lit≤ tt) h (lit< tt)
@@ -66,14 +68,33 @@ rounded-bits : (S h : ℕ) (sum : ℤ) → h ≡ rounding_bits S → clamp_z w16
 unfolding rounded
 rounded-bits S h sum e = ap (λ (n : ℕ). clamp_z w16 (floor_div (pos (2 ^ (n - 1)) -ℤ sum) (2 ^ n))) e
 
-pub rounded-4 : (S : ℕ) (sum : ℤ) → S ≡ 4 → clamp_z w16 (floor_div (floor_div (pos 0 -ℤ sum) (2 ^ 37) +ℤ pos 1) 2) ≡ rounded S sum
+rounded-4 : (S : ℕ) (sum : ℤ) → S ≡ 4 → clamp_z w16 (floor_div (floor_div (pos 0 -ℤ sum) (2 ^ 37) +ℤ pos 1) 2) ≡ rounded S sum
 rounded-4 S sum e =
     ap (clamp_z w16) (half-less (2 ^ 37) (2 ^ 38) (λ a. omega arith) (λ a h. (omega arith, omega arith))
     (λ a h. (omega arith, omega arith)) sum)
     ∙ rounded-bits S 38 sum (rw (eq-eqb S 4 e))
 
-pub rounded-8 : (S : ℕ) (sum : ℤ) → (S ≡ 4 → ⊥) → clamp_z w16 (floor_div (floor_div (pos 0 -ℤ sum) (2 ^ 36) +ℤ pos 1) 2) ≡ rounded S sum
+rounded-8 : (S : ℕ) (sum : ℤ) → (S ≡ 4 → ⊥) → clamp_z w16 (floor_div (floor_div (pos 0 -ℤ sum) (2 ^ 36) +ℤ pos 1) 2) ≡ rounded S sum
 rounded-8 S sum ne =
     ap (clamp_z w16) (half-less (2 ^ 36) (2 ^ 37) (λ a. omega arith) (λ a h. (omega arith, omega arith))
     (λ a h. (omega arith, omega arith)) sum)
     ∙ rounded-bits S 37 sum (rw (ne_eqb S 4 ne))
+
+-- ---- the bits before the last one, for either number of subbands
+pub bits-enough : {S : ℕ} (n : ℕ) → Bands S → n + 1 ≡ rounding_bits S → (n ≤ 37) × (output_bound ≤ 22000000 * 2 ^ n) × (0 < 2 ^ n)
+bits-enough n b =
+    for-bands (λ s. n + 1 ≡ rounding_bits s → (n ≤ 37) × (output_bound ≤ 22000000 * 2 ^ n) × (0 < 2 ^ n)) b
+    (λ e. let at : 37 ≡ n = omega arith in
+    subst (λ (k : ℕ). (k ≤ 37) × (output_bound ≤ 22000000 * 2 ^ k) × (0 < 2 ^ k)) at (lit≤ tt, lit≤ tt, lit< tt))
+    (λ e. let at : 36 ≡ n = omega arith in
+    subst (λ (k : ℕ). (k ≤ 37) × (output_bound ≤ 22000000 * 2 ^ k) × (0 < 2 ^ k)) at (lit≤ tt, lit≤ tt, lit< tt))
+
+pub rounded-half : {S : ℕ} (n : ℕ) (sum : ℤ) → Bands S → n + 1 ≡ rounding_bits S
+    → clamp_z w16 (floor_div (floor_div (pos 0 -ℤ sum) (2 ^ n) +ℤ pos 1) 2) ≡ rounded S sum
+rounded-half n sum b =
+    for-bands (λ s. n + 1 ≡ rounding_bits s → clamp_z w16 (floor_div (floor_div (pos 0 -ℤ sum) (2 ^ n) +ℤ pos 1) 2) ≡ rounded s sum) b
+    (λ e. let at : 37 ≡ n = omega arith in
+    subst (λ (k : ℕ). clamp_z w16 (floor_div (floor_div (pos 0 -ℤ sum) (2 ^ k) +ℤ pos 1) 2) ≡ rounded 4 sum) at (rounded-4 4 sum refl))
+    (λ e. let at : 36 ≡ n = omega arith in
+    subst (λ (k : ℕ). clamp_z w16 (floor_div (floor_div (pos 0 -ℤ sum) (2 ^ k) +ℤ pos 1) 2) ≡ rounded 8 sum) at
+    (rounded-8 8 sum (λ q. omega arith)))

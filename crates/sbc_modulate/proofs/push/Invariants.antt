@@ -7,7 +7,7 @@ use Rattle.sbc_modulate.specs.Fold.{row_value}
 use Rattle.sbc_modulate.proofs.push.Given as goal
 
 abbrev pub invariant-loop-r : goal.invariant-loop-r
-invariant-loop-r l = (l.r ≤ 2 * l.subbands) × (l.values ≡ overwrite l.at l.r (row_value l.subbands l.rows) l.initial.values)
+invariant-loop-r g l = (l.r ≤ 2 * g.B.Bank.SUBBANDS) × (l.values ≡ overwrite l.at l.r (row_value g.B.Bank.SUBBANDS l.rows) l.initial.values)
 
 abbrev pub decreases-loop-r : goal.decreases-loop-r
-decreases-loop-r l = 2 * l.subbands - l.r
+decreases-loop-r g l = 2 * g.B.Bank.SUBBANDS - l.r

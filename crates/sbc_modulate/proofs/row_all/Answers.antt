@@ -7,26 +7,26 @@ use Rattle.sbc_filterbank.proofs.Bands.{bands-le}
 use Rattle.sbc_modulate.proofs.row_all.Goals as goal
 
 pub loop-m-init : goal.loop-m-init
-loop-m-init c = (omega arith, fill_none 8 _)
+loop-m-init g c = (omega arith, fill_none 8 _)
 
 pub row-requires : goal.row-requires
-row-requires c = (c.requires.0, c.loop-m-test.true, c.requires.1, c.requires.2, c.requires.3)
+row-requires g c = omega arith
 
 pub offset_bounds-rows-m : goal.offset_bounds-rows-m
-offset_bounds-rows-m c = omega (arith, bands-le c.requires.0)
+offset_bounds-rows-m g c = omega (arith, bands-le g.met.B.Bank.bands)
 
 pub bounds-rows-m : goal.bounds-rows-m
-bounds-rows-m c = omega (arith, bands-le c.requires.0)
+bounds-rows-m g c = omega (arith, bands-le g.met.B.Bank.bands)
 
 pub overflow_step-m : goal.overflow_step-m
-overflow_step-m c = omega (arith, bands-le c.requires.0)
+overflow_step-m g c = omega (arith, bands-le g.met.B.Bank.bands)
 
 pub loop-m-preserved : goal.loop-m-preserved
-loop-m-preserved c = (
+loop-m-preserved g c = (
   omega arith,
-  stored w64 8 _ _ _ _ (record { sfits = c.row.type_inv }) (omega (arith, bands-le c.requires.0))
+  stored w64 8 _ _ _ _ (record { sfits = c.row.type_inv }) (omega (arith, bands-le g.met.B.Bank.bands))
       c.loop-m.invariant.1 c.row.ensures,
 )
 
 pub returns : goal.returns
-returns c = filled 8 _ _ _ _ (omega arith) (omega arith) c.loop-m.invariant.1
+returns g c = filled 8 _ _ _ _ (omega arith) (omega arith) c.loop-m.invariant.1

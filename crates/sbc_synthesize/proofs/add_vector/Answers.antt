@@ -49,76 +49,76 @@ module _ {S j b : ℕ} (newest : ℕ) (values taps sums : List ℤ) (at : ℕ) (
       (ap (λ (l : List ℤ). get_or l (b * S + j) (pos 0)) p) held-is (read_small w32 (get_or values at (pos 0)) held)
 
 pub loop-j-init : goal.loop-j-init
-loop-j-init c = (omega arith, fill_none 8 _, λ i h. omega arith)
-
-pub place-at-requires : goal.place-at-requires
-place-at-requires c = (c.requires.0, c.requires.1, c.loop-j-test.true, c.requires.2)
+loop-j-init g c = (omega arith, fill_none 8 _, λ i h. omega arith)
 
 pub offset_bounds-sums-j : goal.offset_bounds-sums-j
-offset_bounds-sums-j c = omega (arith, bands-le c.requires.0)
+offset_bounds-sums-j g c = omega (arith, bands-le g.met.B.Bank.bands)
 
 pub bounds-sums-j : goal.bounds-sums-j
-bounds-sums-j c = omega (arith, bands-le c.requires.0)
+bounds-sums-j g c = omega (arith, bands-le g.met.B.Bank.bands)
 
 pub overflow_mul-b : goal.overflow_mul-b
-overflow_mul-b c = omega (arith, tap-below c.loop-j.j c.args.b c.requires.0 c.loop-j-test.true c.requires.2, bands-le c.requires.0)
+overflow_mul-b g c = rw (c.SUBBANDS-subbands.ensures) (omega (arith, tap-below c.loop-j.j c.args.b g.met.B.Bank.bands (omega arith) c.requires.1, bands-le g.met.B.Bank.bands))
 
 pub overflow_add-b : goal.overflow_add-b
-overflow_add-b c = omega (arith, tap-below c.loop-j.j c.args.b c.requires.0 c.loop-j-test.true c.requires.2, bands-le c.requires.0)
+overflow_add-b g c = rw (c.SUBBANDS-subbands.ensures) (omega (arith, tap-below c.loop-j.j c.args.b g.met.B.Bank.bands (omega arith) c.requires.1, bands-le g.met.B.Bank.bands))
 
 pub offset_bounds-taps-b : goal.offset_bounds-taps-b
-offset_bounds-taps-b c = omega (arith, tap-below c.loop-j.j c.args.b c.requires.0 c.loop-j-test.true c.requires.2, bands-le c.requires.0)
+offset_bounds-taps-b g c =
+    rw (c.SUBBANDS-subbands.ensures) (omega (arith, tap-below c.loop-j.j c.args.b g.met.B.Bank.bands (omega arith) c.requires.1, bands-le g.met.B.Bank.bands))
 
 pub bounds-taps-b : goal.bounds-taps-b
-bounds-taps-b c =
-    let below = tap-below c.loop-j.j c.args.b c.requires.0 c.loop-j-test.true c.requires.2 in
-    omega (arith, below, ap length c.requires.3, prototype-length c.requires.0)
-
-pub offset_bounds-values-at : goal.offset_bounds-values-at
-offset_bounds-values-at c = omega (arith, c.place-at.ensures.1)
-
-pub bounds-values-at : goal.bounds-values-at
-bounds-values-at c = c.place-at.ensures.1
+bounds-taps-b g c =
+    let below = tap-below c.loop-j.j c.args.b g.met.B.Bank.bands (omega arith) c.requires.1 in
+    rw (c.SUBBANDS-subbands.ensures) (omega (arith, below, ap length c.prototype-taps.ensures, prototype-length g.met.B.Bank.bands))
 
 pub multiply_add-requires : goal.multiply_add-requires
-multiply_add-requires c =
-    let tap : mag (get_or c.args.taps.now (c.args.b * c.args.subbands + c.loop-j.j) (pos 0)) < 2 ^ 31 = omega arith in
-    let held : mag (get_or c.args.values.now c.place-at.result (pos 0)) < 2 ^ 31 = omega arith in
-    let n = next c.args.newest c.args.values.now c.args.taps.now c.args.sums.now c.place-at.result c.requires.0 c.loop-j-test.true
-    c.requires.2 c.requires.3
-    c.requires.4 c.place-at.ensures.0 tap held in
-    summed-fits n 10 700000000 (tap-sum-bound c.loop-j.j c.requires.0 c.loop-j-test.true) (omega (arith, c.requires.2)) (lit< tt)
+multiply_add-requires g c =
+    let S = g.B.Bank.SUBBANDS in
+    let taps = c.prototype-taps.result.now in
+    let history = c.args.history.now in
+    let below : c.loop-j.j < S = omega arith in
+    let place = c.place-at.ensures c.loop-j.j below in
+    let read : mag (get_or taps (c.args.b * c.SUBBANDS-subbands.result + c.loop-j.j) (pos 0)) < 2 ^ 31 = omega arith in
+    let tap : mag (get_or taps (c.args.b * S + c.loop-j.j) (pos 0)) < 2 ^ 31 = rw (c.SUBBANDS-subbands.ensures) at read in
+    let held : mag (get_or history.values (c.place-at.result + c.loop-j.j) (pos 0)) < 2 ^ 31 = omega arith in
+    let n = next history.newest history.values taps c.args.sums.now (c.place-at.result + c.loop-j.j) g.met.B.Bank.bands below c.requires.1 c.prototype-taps.ensures
+    c.requires.2 place.0 tap held in
+    rw (c.SUBBANDS-subbands.ensures) (summed-fits n 10 700000000 (tap-sum-bound c.loop-j.j g.met.B.Bank.bands below) (omega (arith, c.requires.1)) (lit< tt))
 
 pub offset_bounds-more-j : goal.offset_bounds-more-j
-offset_bounds-more-j c = omega (arith, bands-le c.requires.0)
+offset_bounds-more-j g c = omega (arith, bands-le g.met.B.Bank.bands)
 
 pub bounds-more-j : goal.bounds-more-j
-bounds-more-j c = omega (arith, bands-le c.requires.0)
+bounds-more-j g c = omega (arith, bands-le g.met.B.Bank.bands)
 
 pub overflow_step-j : goal.overflow_step-j
-overflow_step-j c = omega (arith, bands-le c.requires.0)
+overflow_step-j g c = omega (arith, bands-le g.met.B.Bank.bands)
 
 pub loop-j-preserved : goal.loop-j-preserved
-loop-j-preserved c =
-    let tap : mag (get_or c.args.taps.now (c.args.b * c.args.subbands + c.loop-j.j) (pos 0)) < 2 ^ 31 = omega arith in
-    let held : mag (get_or c.args.values.now c.place-at.result (pos 0)) < 2 ^ 31 = omega arith in
-    let n = next c.args.newest c.args.values.now c.args.taps.now c.args.sums.now c.place-at.result c.requires.0 c.loop-j-test.true
-    c.requires.2 c.requires.3
-    c.requires.4 c.place-at.ensures.0 tap held in
-    let args = c.args in
-    let turn = c.loop-j in (
+loop-j-preserved g c =
+    let S = g.B.Bank.SUBBANDS in
+    let taps = c.prototype-taps.result.now in
+    let history = c.args.history.now in
+    let turn = c.loop-j in
+    let below : turn.j < S = omega arith in
+    let place = c.place-at.ensures turn.j below in
+    let read : mag (get_or taps (c.args.b * c.SUBBANDS-subbands.result + turn.j) (pos 0)) < 2 ^ 31 = omega arith in
+    let tap : mag (get_or taps (c.args.b * S + turn.j) (pos 0)) < 2 ^ 31 = rw (c.SUBBANDS-subbands.ensures) at read in
+    let held : mag (get_or history.values (c.place-at.result + turn.j) (pos 0)) < 2 ^ 31 = omega arith in
+    let n = next history.newest history.values taps c.args.sums.now (c.place-at.result + turn.j) g.met.B.Bank.bands below c.requires.1 c.prototype-taps.ensures
+    c.requires.2 place.0 tap held in (
       omega arith,
-      stored w64 8 _ _ _ _ (record { sfits = c.multiply_add.type_inv })
-          (omega (arith, bands-le c.requires.0)) turn.invariant.1
-          (c.multiply_add.ensures ∙ n.is),
-      all-next
-          (λ (i : ℕ). nat_abs (summed args.subbands args.values.now args.newest args.b i) ≤ tap_sum args.subbands (args.b + 1) i * 2 ^ 31)
+      stored w64 8 _ _ _ _ (record { sfits = c.multiply_add.type_inv }) (omega (arith, bands-le g.met.B.Bank.bands)) turn.invariant.1
+          ((rw (c.SUBBANDS-subbands.ensures) at c.multiply_add.ensures) ∙ n.is),
+      all-next (λ (i : ℕ). nat_abs (summed S history.values history.newest c.args.b i) ≤ tap_sum S (c.args.b + 1) i * 2 ^ 31)
           turn.j turn.invariant.2 n.small,
     )
 
 pub returns : goal.returns
-returns c =
-    let args = c.args in
+returns g c =
+    let S = g.B.Bank.SUBBANDS in
+    let history = c.args.history.now in
     let turn = c.loop-j in
-    let sums = summed args.subbands args.values.now args.newest args.b in
-    (filled 8 turn.j args.subbands sums turn.more (omega arith) (omega arith) turn.invariant.1, λ k h. turn.invariant.2 k (omega arith))
+    let sums = summed S history.values history.newest c.args.b in
+    (filled 8 turn.j S sums turn.more (omega arith) (omega arith) turn.invariant.1, λ k h. turn.invariant.2 k (omega arith))

@@ -11,9 +11,9 @@ use Rattle.sbc_synthesize.proofs.Samples.{summed}
 use Rattle.sbc_synthesize.proofs.add_vector.Given as goal
 
 abbrev pub invariant-loop-j : goal.invariant-loop-j
-invariant-loop-j l =
-    (l.j ≤ l.subbands) × (l.more ≡ build 8 (up_to l.j (summed l.subbands l.values l.newest l.b)))
-    × ((i : ℕ) → i < l.j → nat_abs (summed l.subbands l.values l.newest l.b i) ≤ tap_sum l.subbands (l.b + 1) i * 2 ^ 31)
+invariant-loop-j g l =
+    (l.j ≤ g.B.Bank.SUBBANDS) × (l.more ≡ build 8 (up_to l.j (summed g.B.Bank.SUBBANDS l.history.values l.history.newest l.b)))
+    × ((i : ℕ) → i < l.j → nat_abs (summed g.B.Bank.SUBBANDS l.history.values l.history.newest l.b i) ≤ tap_sum g.B.Bank.SUBBANDS (l.b + 1) i * 2 ^ 31)
 
 abbrev pub decreases-loop-j : goal.decreases-loop-j
-decreases-loop-j l = l.subbands - l.j
+decreases-loop-j g l = g.B.Bank.SUBBANDS - l.j

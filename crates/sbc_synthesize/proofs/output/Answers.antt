@@ -17,37 +17,37 @@ use Rattle.sbc_filterbank.proofs.Words.{read-entry}
 use Rattle.sbc_synthesize.proofs.output.Goals as goal
 
 pub loop-j-init : goal.loop-j-init
-loop-j-init c = (omega arith, fill_none 8 _)
+loop-j-init g c = (omega arith, fill_none 8 _)
 
 pub offset_bounds-sums-j : goal.offset_bounds-sums-j
-offset_bounds-sums-j c = omega (arith, bands-le c.requires.0)
+offset_bounds-sums-j g c = omega (arith, bands-le g.met.B.Bank.bands)
 
 pub bounds-sums-j : goal.bounds-sums-j
-bounds-sums-j c = omega (arith, bands-le c.requires.0)
+bounds-sums-j g c = omega (arith, bands-le g.met.B.Bank.bands)
 
 pub round-requires : goal.round-requires
-round-requires c =
+round-requires g c =
     let sum : to_z w64 (of_z w64 (get_or c.args.sums.now c.loop-j.j (pos 0))) ≡ get_or c.args.sums.now c.loop-j.j (pos 0) =
-    read-entry w64 c.args.sums.now c.requires.1 (lit< tt) c.loop-j.j in
-    subst (λ (z : ℤ). nat_abs z ≤ output_bound) (sym sum) (c.requires.1 c.loop-j.j)
+    read-entry w64 c.args.sums.now c.requires (lit< tt) c.loop-j.j in
+    subst (λ (z : ℤ). nat_abs z ≤ output_bound) (sym sum) (c.requires c.loop-j.j)
 
 pub offset_bounds-out-j : goal.offset_bounds-out-j
-offset_bounds-out-j c = omega (arith, bands-le c.requires.0)
+offset_bounds-out-j g c = omega (arith, bands-le g.met.B.Bank.bands)
 
 pub bounds-out-j : goal.bounds-out-j
-bounds-out-j c = omega (arith, bands-le c.requires.0)
+bounds-out-j g c = omega (arith, bands-le g.met.B.Bank.bands)
 
 pub overflow_step-j : goal.overflow_step-j
-overflow_step-j c = omega (arith, bands-le c.requires.0)
+overflow_step-j g c = omega (arith, bands-le g.met.B.Bank.bands)
 
 pub loop-j-preserved : goal.loop-j-preserved
-loop-j-preserved c =
+loop-j-preserved g c =
     let sum : to_z w64 (of_z w64 (get_or c.args.sums.now c.loop-j.j (pos 0))) ≡ get_or c.args.sums.now c.loop-j.j (pos 0) =
-    read-entry w64 c.args.sums.now c.requires.1 (lit< tt) c.loop-j.j in (
+    read-entry w64 c.args.sums.now c.requires (lit< tt) c.loop-j.j in (
       omega arith,
-      stored w16 8 _ _ _ _ (record { sfits = c.round.type_inv }) (omega (arith, bands-le c.requires.0)) c.loop-j.invariant.1
-          (c.round.ensures ∙ ap (rounded c.args.subbands) sum),
+      stored w16 8 _ _ _ _ (record { sfits = c.round.type_inv }) (omega (arith, bands-le g.met.B.Bank.bands)) c.loop-j.invariant.1
+          (c.round.ensures ∙ ap (rounded g.B.Bank.SUBBANDS) sum),
     )
 
 pub returns : goal.returns
-returns c = filled 8 _ _ _ _ (omega arith) (omega arith) c.loop-j.invariant.1
+returns g c = filled 8 _ _ _ _ (omega arith) (omega arith) c.loop-j.invariant.1

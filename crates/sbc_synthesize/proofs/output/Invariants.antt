@@ -11,7 +11,7 @@ use Rattle.sbc_filterbank.specs.Synthesis.{rounded}
 use Rattle.sbc_synthesize.proofs.output.Given as goal
 
 abbrev pub invariant-loop-j : goal.invariant-loop-j
-invariant-loop-j l = (l.j ≤ l.subbands) × (l.out ≡ build 8 (up_to l.j (λ n. rounded l.subbands (get_or l.sums n (pos 0)))))
+invariant-loop-j g l = (l.j ≤ g.B.Bank.SUBBANDS) × (l.out ≡ build 8 (up_to l.j (λ n. rounded g.B.Bank.SUBBANDS (get_or l.sums n (pos 0)))))
 
 abbrev pub decreases-loop-j : goal.decreases-loop-j
-decreases-loop-j l = l.subbands - l.j
+decreases-loop-j g l = g.B.Bank.SUBBANDS - l.j
