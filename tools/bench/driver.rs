@@ -8,13 +8,20 @@ use nanoaudio_sbc::{SbcAllocation, SbcChannelMode, SbcDecoder, SbcEncoder, SbcPa
 use nanoaudio_sbc_blocks::exports_of_blocks;
 use std::time::Instant;
 
+/// What the proved synthesis remembers, as C lays it out.
+#[repr(C)]
+struct Synthesis {
+    values: [i32; 160],
+    newest: usize,
+}
+
 unsafe extern "C" {
     fn rattle_checksum(frame: *const u8, length: usize, side_bits: usize) -> u8;
     fn rattle_quantize(sample: i32, scale_factor: u8, bits: u8) -> u32;
     fn rattle_reconstruct(quantized: u32, scale_factor: u8, bits: u8) -> i32;
     fn rattle_quantize_blocks(bits: *const [u8; 8], scale_factors: *const [u8; 8], samples: *const [i32; 128], output: *mut [u32; 128]);
     fn rattle_reconstruct_blocks(bits: *const [u8; 8], scale_factors: *const [u8; 8], quantized: *const [u32; 128], output: *mut [i32; 128]);
-    fn rattle_synthesize(values: *mut [i32; 160], input: *const [i32; 8], output: *mut [i16; 8], newest: usize, subbands: usize);
+    fn rattle_synthesize(history: *mut Synthesis, input: *const [i32; 8], output: *mut [i16; 8], subbands: usize);
     fn rattle_analyze(history: *mut [i16; 80], input: *const [i16; 8], output: *mut [i32; 8], subbands: usize);
     fn rattle_decode(input: *const u8, input_length: usize, output: *mut i16, output_length: usize, progress: *mut [u64; 2]);
     fn rattle_encode(
@@ -183,15 +190,13 @@ fn synthesize(rattle: bool, n: u64, subbands: usize) -> u64 {
     let mut draw = Draw(6);
     let mut digest = 0;
     let mut ring = exports::Ring::new();
-    let mut values = [0i32; 160];
-    let mut newest = 0;
+    let mut history = Synthesis { values: [0; 160], newest: 0 };
     for _ in 0..n {
         let (a, b) = (draw.next(), draw.next());
         let input: [i32; 8] = std::array::from_fn(|i| ((if i < 4 { a >> (8 * i) } else { b >> (8 * i - 24) }) as i32) >> 5);
         let mut output = [0i16; 8];
         if rattle {
-            unsafe { rattle_synthesize(&mut values, &input, &mut output, newest, subbands) };
-            newest = (newest + 9) % 10;
+            unsafe { rattle_synthesize(&mut history, &input, &mut output, subbands) };
         } else {
             ring.synthesize(&input[..subbands], &mut output[..subbands]);
         }

@@ -2,8 +2,9 @@
 ghost use Rattle.std.specs.Prelude.{◌≡◌, replicate, pos};
 ghost use Rattle.sbc_filterbank.specs.Ring.{next_slot};
 
-// The last ten vectors, in a ring of ten slots; the slot `newest` holds the newest.
+// The last ten vectors, in a ring of ten slots; the slot `newest` holds the newest. As C lays it out, so that the benchmark can lend one.
 #[derive(Clone, Copy)]
+#[repr(C)]
 pub struct Synthesis {
     pub values: [i32; 160],
     pub newest: usize,

@@ -4,7 +4,7 @@
 use Prim.Native.Nat.{ℕ, zero, suc, ◌+◌, ◌*◌, ◌^◌, ◌≤◌, ◌<◌}
 use mathlib.Core.Path.{◌≡◌, refl, sym, ap, ap₂, ◌∙◌, subst}
 use mathlib.Core.List.{List, [], ◌∷◌, ◌++◌}
-use native.Mathlib.Nat.{not-suc-le-zero, le_of_suc-le-suc, zero-mul, suc-mul, mul_comm}
+use native.Mathlib.Nat.{not-suc-le-zero, le_of_suc-le-suc, zero-mul, suc-mul}
 use native.Mathlib.Numerals.{add-one}
 use native.Mathlib.Omega.{arith}
 use lib.ListN.{length, get_or, drop, get_or-append}
@@ -48,33 +48,27 @@ modulated-first S f le =
     (λ i lt. ap (λ (z : ℤ). synthesis_cosine S r i *ℤ z) (get_or-build 8 f i (pos 0) (omega arith) ∙ sym (get_or-build S f i (pos 0) lt)))))
 
 -- the history after a block, and its samples in their places, from what the code's steps give
-module _ {S : ℕ} (C c b : ℕ) (f : ℕ → ℤ) (h : Synthesis) (input values pcm before after : List ℤ) (bands : Bands S)
-    (l : length h.values ≡ 160) (i : input ≡ build 8 f) (v : values ≡ ring_pushed S (modulated S input) h.values h.newest)
-    (o : pcm ≡ padded (synthesis_outputs S (ring S values (next_slot h.newest))))
-    (a : after ≡ placed C c (S * b) S (λ j. get_or pcm j (pos 0)) before) where
-  values-are : values ≡ (synthesized S h (build S f)).values
-  unfolding synthesized
+module _ {S : ℕ} (C c b : ℕ) (f : ℕ → ℤ) (h new : Synthesis) (input pcm before after : List ℤ) (bands : Bands S)
+    (l : length h.values ≡ 160) (i : input ≡ build 8 f) (v : new.values ≡ ring_pushed S (modulated S input) h.values h.newest)
+    (w : new.newest ≡ next_slot h.newest) (o : pcm ≡ padded (synthesis_outputs S (ring S new.values new.newest)))
+    (a : after ≡ placed C c (b * S) S (λ j. get_or pcm j (pos 0)) before) where
+  values-are : new.values ≡ ring_pushed S (modulated S (build S f)) h.values h.newest
   values-are = v ∙ ap (λ (m : List ℤ). ring_pushed S m h.values h.newest) (ap (modulated S) i ∙ modulated-first S f (bands-le bands))
 
+  history-is : new ≡ synthesized S h (build S f)
+  unfolding synthesized
+  history-is = λ k. record { values = values-are k; newest = w k }
+
   samples-are : (j : ℕ) → get_or pcm j (pos 0) ≡ get_or (synthesize S h (build S f)) j (pos 0)
-  unfolding synthesized synthesize
+  unfolding synthesize
   samples-are j =
       ap (λ (z : List ℤ). get_or z j (pos 0)) o ∙ padded-at _ j
       ∙ ap (λ (z : List ℤ). get_or z j (pos 0))
-      (ap (λ (z : List ℤ). synthesis_outputs S (ring S z (next_slot h.newest))) values-are
-      ∙ outputs-push (build S f) h.values h.newest bands l)
+      (ap₂ (λ (z : List ℤ) (n : ℕ). synthesis_outputs S (ring S z n)) values-are w ∙ outputs-push (build S f) h.values h.newest bands l)
 
-  pub block-played : (T : ℕ) → T ≡ S
-      → (values ≡ (synthesized T h (build T f)).values)
-      × (after ≡ placed C c (b * T) T (λ j. get_or (synthesize T h (build T f)) j (pos 0)) before)
-  block-played T e =
-      subst (λ (t : ℕ).
-      (values ≡ (synthesized t h (build t f)).values)
-      × (after ≡ placed C c (b * t) t (λ j. get_or (synthesize t h (build t f)) j (pos 0)) before)) (sym e) (
-        values-are,
-        a ∙ ap (λ (n : ℕ). placed C c n S (λ j. get_or pcm j (pos 0)) before) (mul_comm S b)
-            ∙ placed-ext C c (b * S) S _ _ before (λ j lt. samples-are j),
-      )
+  pub block-played : (new ≡ synthesized S h (build S f))
+      × (after ≡ placed C c (b * S) S (λ j. get_or (synthesize S h (build S f)) j (pos 0)) before)
+  block-played = (history-is, a ∙ placed-ext C c (b * S) S _ _ before (λ j lt. samples-are j))
 
 -- ---- the blocks of a channel
 module _ (S : ℕ) (h : Synthesis) (xs : List ℤ) where
@@ -103,16 +97,14 @@ module _ (S : ℕ) (h : Synthesis) (xs : List ℤ) where
     block = build S (λ s. sample_in xs n s)
 
     -- the history after one block more: its length, and what it is
-    pub length-next : (m : ℕ) (values : List ℤ) → values ≡ (synthesized S old block).values → length old.values ≡ m → length values ≡ m
+    pub length-next : (m : ℕ) (new : Synthesis) → new ≡ synthesized S old block → length old.values ≡ m → length new.values ≡ m
     unfolding synthesized
-    length-next m values v q = ap length v ∙ length-ring-pushed S (modulated S block) old.values old.newest ∙ q
+    length-next m new v q =
+        ap (λ (g : Synthesis). length g.values) v ∙ length-ring-pushed S (modulated S block) old.values old.newest ∙ q
 
-    pub after_next : (new : Synthesis) → new.values ≡ (synthesized S old block).values → new.newest ≡ next_slot old.newest
-        → new ≡ synthesis_after S h (blocks_in (n + 1) S xs)
-    unfolding synthesized
-    after_next new v q =
-        (λ i. record { values = v i; newest = q i })
-        ∙ ap (λ (g : Synthesis). synthesized S g block) e
+    pub after_next : (new : Synthesis) → new ≡ synthesized S old block → new ≡ synthesis_after S h (blocks_in (n + 1) S xs)
+    after_next new v =
+        v ∙ ap (λ (g : Synthesis). synthesized S g block) e
         ∙ sym (ap (synthesis_after S h) (blocks-next n) ∙ synthesis-after-next S h (blocks_in n S xs) block)
 
     -- its samples stand behind those of the n blocks

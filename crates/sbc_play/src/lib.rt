@@ -10,9 +10,11 @@ ghost use Rattle.sbc_frame.specs.Channels.{interleave, no_synthesis, synthesized
 ghost use Rattle.sbc_frame.specs.Arrays.{sample_in, Small};
 ghost use Rattle.sbc_play.specs.Playing.{blocks_in, placed, histories_after};
 
-use sbc_filterbank::{Synthesis, advance};
+use sbc_filterbank::{PcmChannel, Synthesis};
+use sbc_modulate::SynthesisBank;
 use sbc_parameters::SbcParameters;
-use sbc_synthesize::{synthesize4, synthesize8};
+use sbc_synthesize::synthesize_by;
+use sbc_tables::{Bank, Eight, Four};
 
 // The samples of one block.
 fn block_of(samples: &[i32; 128], block: usize) -> [i32; 8]
@@ -20,59 +22,61 @@ fn block_of(samples: &[i32; 128], block: usize) -> [i32; 8]
     ensures { result ≡ build 8 (λ s. sample_in samples.now block s) }
 {
     let mut input = [0i32; 8];
-    for s in 0..8 {
-        input[s] = samples[8 * block + s];
-    }
+    input.copy_from_slice(&samples[8 * block..8 * block + 8]);
     input
 }
 
-// A block's PCM into a channel's places, from the channel's sample `from` on. PCM of two channels alternates.
-fn put_block(
-    output: &mut [i16],
-    pcm: &[i16; 8],
-    from: usize,
-    count: usize,
-    channel: usize,
-    channels: usize,
-)
-    requires { (count ≤ 8) × (channel < channels) × (channels ≤ 2) × ((from + count) * channels ≤ length output.old) }
-    ensures { output.new ≡ placed channels channel from count (λ j. get_or pcm.now j (pos 0)) output.old }
+// A block's PCM into a channel's places.
+fn put_block<B: Bank>(output: &mut [i16], pcm: &[i16; 8], block: usize, channel: PcmChannel)
+    requires { (block + 1) * B.SUBBANDS * channel.count ≤ length output.old }
+    ensures { output.new
+        ≡ placed channel.count channel.index (block * B.SUBBANDS) B.SUBBANDS (λ j. get_or pcm.now j (pos 0)) output.old }
 {
-    for j in 0..count {
-        output[(from + j) * channels + channel] = pcm[j];
+    let subbands = B::SUBBANDS;
+    for j in 0..subbands {
+        output[(block * subbands + j) * channel.count + channel.index] = pcm[j];
     }
 }
 
-// One block of a channel. `newest` is the ring's newest slot before it.
-fn play_block(
-    values: &mut [i32; 160],
+// One block of a channel.
+fn play_block<B: SynthesisBank>(
+    history: &mut Synthesis,
     output: &mut [i16],
     samples: &[i32; 128],
-    newest: usize,
     block: usize,
-    subbands: usize,
-    channel: usize,
-    channels: usize,
+    channel: PcmChannel,
 )
-    requires { (length values.old ≡ 160) × (Bands subbands) × (block < 16) × (channel < channels) × (channels ≤ 2)
-        × ((block + 1) * subbands * channels ≤ length output.old)
+    requires { (length history.old.values ≡ 160) × (block < 16) × ((block + 1) * B.SUBBANDS * channel.count ≤ length output.old)
         × ((s : ℕ) → s < 8 → nat_abs (sample_in samples.now block s) ≤ 2 ^ 28) }
-    ensures values { values.new
-        ≡ (synthesized subbands (record { values = values.old; newest = newest })
-        (build subbands (λ s. sample_in samples.now block s))).values }
+    ensures history { history.new ≡ synthesized B.SUBBANDS history.old (build B.SUBBANDS (λ s. sample_in samples.now block s)) }
     ensures output { output.new
-        ≡ placed channels channel (block * subbands) subbands
-        (λ j. get_or (synthesize subbands (record { values = values.old; newest = newest })
-        (build subbands (λ s. sample_in samples.now block s))) j (pos 0)) output.old }
+        ≡ placed channel.count channel.index (block * B.SUBBANDS) B.SUBBANDS
+        (λ j. get_or (synthesize B.SUBBANDS history.old (build B.SUBBANDS (λ s. sample_in samples.now block s))) j (pos 0)) output.old }
 {
     let input = block_of(samples, block);
-    if subbands == 4 {
-        let pcm = synthesize4(values, &input, newest);
-        put_block(output, &pcm, 4 * block, 4, channel, channels);
-    } else {
-        let pcm = synthesize8(values, &input, newest);
-        put_block(output, &pcm, 8 * block, 8, channel, channels);
+    let pcm = synthesize_by::<B>(history, &input);
+    put_block::<B>(output, &pcm, block, channel);
+}
+
+// All blocks of a channel, by one filterbank.
+fn play_channel_by<B: SynthesisBank>(
+    history: Synthesis,
+    samples: &[i32; 128],
+    output: &mut [i16],
+    blocks: usize,
+    channel: PcmChannel,
+) -> Synthesis
+    requires { (blocks ≤ 16) × (blocks * B.SUBBANDS * channel.count ≤ length output.old) × (Small blocks (2 ^ 28) samples.now) }
+    ensures history { result ≡ synthesis_after B.SUBBANDS history (blocks_in blocks B.SUBBANDS samples.now) }
+    ensures output { output.new
+        ≡ placed channel.count channel.index 0 (blocks * B.SUBBANDS)
+        (λ j. get_or (synthesize_blocks B.SUBBANDS history (blocks_in blocks B.SUBBANDS samples.now)) j (pos 0)) output.old }
+{
+    let mut after = history;
+    for block in 0..blocks {
+        play_block::<B>(&mut after, output, samples, block, channel);
     }
+    after
 }
 
 // All blocks of a channel.
@@ -82,32 +86,19 @@ fn play_channel(
     output: &mut [i16],
     blocks: usize,
     subbands: usize,
-    channel: usize,
-    channels: usize,
+    channel: PcmChannel,
 ) -> Synthesis
-    requires { (Bands subbands) × (blocks ≤ 16) × (channel < channels) × (channels ≤ 2)
-        × (blocks * subbands * channels ≤ length output.old) × (Small blocks (2 ^ 28) samples.now) }
+    requires { (Bands subbands) × (blocks ≤ 16) × (blocks * subbands * channel.count ≤ length output.old)
+        × (Small blocks (2 ^ 28) samples.now) }
     ensures history { result ≡ synthesis_after subbands history (blocks_in blocks subbands samples.now) }
     ensures output { output.new
-        ≡ placed channels channel 0 (blocks * subbands)
+        ≡ placed channel.count channel.index 0 (blocks * subbands)
         (λ j. get_or (synthesize_blocks subbands history (blocks_in blocks subbands samples.now)) j (pos 0)) output.old }
 {
-    let mut values = history.values;
-    let mut newest = history.newest;
-    for block in 0..blocks {
-        play_block(
-            &mut values,
-            output,
-            samples,
-            newest,
-            block,
-            subbands,
-            channel,
-            channels,
-        );
-        newest = advance(newest);
+    if subbands == 4 {
+        return play_channel_by::<Four>(history, samples, output, blocks, channel);
     }
-    Synthesis { values, newest }
+    play_channel_by::<Eight>(history, samples, output, blocks, channel)
 }
 
 // All channels of a frame. A history of a channel that the frame does not have stays as it is.
@@ -129,10 +120,18 @@ pub fn play_frame(
     let blocks = parameters.blocks as usize;
     let subbands = parameters.subbands as usize;
     let channels = parameters.channels() as usize;
-    let first = play_channel(histories[0], left, output, blocks, subbands, 0, channels);
+    let one = PcmChannel {
+        index: 0,
+        count: channels,
+    };
+    let first = play_channel(histories[0], left, output, blocks, subbands, one);
     if channels == 1 {
         return [first, histories[1]];
     }
-    let second = play_channel(histories[1], right, output, blocks, subbands, 1, channels);
+    let other = PcmChannel {
+        index: 1,
+        count: channels,
+    };
+    let second = play_channel(histories[1], right, output, blocks, subbands, other);
     [first, second]
 }

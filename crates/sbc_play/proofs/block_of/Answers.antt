@@ -1,20 +1,17 @@
--- `sbc_play::block_of` meets its contract. The loop's invariant: the places before s hold the block's samples, and the others 0.
+-- `sbc_play::block_of` meets its contract: a block's samples stand in eight places.
 -- Assumes nothing.
+use mathlib.Core.Path.{◌≡◌, ◌∙◌, sym}
 use native.Mathlib.Omega.{arith}
+use lib.IntN.{pos}
+use lib.ListN.{length}
 use borrow.Author.Rules.{rules}
-use Rattle.laws.specs.Lists.{collect, build}
-use Rattle.laws.proofs.Arrays.{fill_none, filled, stored}
+use Rattle.std.proofs.lemmas.List.{places}
+use Rattle.laws.proofs.Lists.{build-is}
 use Rattle.sbc_frame.specs.Arrays.{sample_in}
 use Rattle.sbc_play.proofs.block_of.Goals as goal
 
-pub loop-s-init : goal.loop-s-init
-loop-s-init c = (omega arith, fill_none 8 _)
-
-pub loop-s-preserved : goal.loop-s-preserved
-loop-s-preserved c = (omega arith, search (rules, stored))
-
 pub returns : goal.returns
-unfolding collect build
 returns c =
-    filled 8 c.loop-s.s 8 (λ k. sample_in c.args.samples.now c.args.block k) c.loop-s.input (omega arith) (omega arith)
-    c.loop-s.invariant.1
+    let long : length c.args.samples.now ≡ 128 = search rules in
+    c.copy_from_slice.ensures.after
+    ∙ sym (build-is 8 (λ s. sample_in c.args.samples.now c.args.block s) _ (pos 0) (grind (arith, places)) (λ i h. grind (arith, places)))

@@ -20,7 +20,7 @@ none = record { values = []; newest = 0 }
 pub play_channel-first-requires : goal.play_channel-first-requires
 play_channel-first-requires c =
     let q = asked c.args.parameters 0 _ _ c.requires.0 c.channels-channels.ensures (omega (arith, channels-range c.args.parameters))
-    c.requires.3 in (q.0, q.1, q.2, q.3, q.4, c.requires.1)
+    c.requires.3 in (q.0, q.1, q.4, c.requires.1)
 
 pub returns-then-channels-eq1 : goal.returns-then-channels-eq1
 returns-then-channels-eq1 c =
@@ -37,7 +37,7 @@ play_channel-second-requires c =
     omega (arith, c.requires.3, c.play_channel-first.auto.output) in
     let q = asked c.args.parameters 1 _ _ c.requires.0 c.channels-channels.ensures
     (omega (arith, c.if-channels-eq1.false, channels-range c.args.parameters, c.channels-channels.ensures)) room in
-    (q.0, q.1, q.2, q.3, q.4, c.requires.2)
+    (q.0, q.1, q.4, c.requires.2)
 
 pub returns : goal.returns
 returns c =

@@ -7,7 +7,7 @@ use Rattle.sbc_play.proofs.Weaving.{placed-none, placed-next}
 use Rattle.sbc_play.proofs.put_block.Goals as goal
 
 pub loop-j-init : goal.loop-j-init
-loop-j-init c = (omega arith, placed-none _ _ _ _ _)
+loop-j-init g c = (omega arith, placed-none _ _ _ _ _)
 
 pub loop-j-preserved : goal.loop-j-preserved
-loop-j-preserved c = (omega arith, search (rules, placed-next))
+loop-j-preserved g c = (omega arith, rw (c.SUBBANDS-subbands.ensures) (search (rules, placed-next)))

@@ -1,6 +1,8 @@
 -- `sbc_synthesize::place` meets its contract: the place as if the ring went on is below 320, and past the tenth slot it is 20 S
 -- too far.
 -- Assumes nothing.
+use Prim.Native.Nat.{ℕ, ◌*◌, ◌%◌}
+use mathlib.Core.Path.{ap}
 use native.Mathlib.Omega.{arith}
 use Rattle.sbc_filterbank.proofs.Bands.{bands-le}
 use Rattle.sbc_synthesize.proofs.Blocks.{place-ahead, place-first, place-back, place-past}
@@ -13,7 +15,9 @@ pub overflow_mul-at-2 : goal.overflow_mul-at-2
 overflow_mul-at-2 g c = rw (c.SUBBANDS-subbands.ensures) (omega (arith, place-ahead c.args.newest c.args.b g.met.B.Bank.bands c.requires.0 c.requires.1))
 
 pub overflow_mul-at-3 : goal.overflow_mul-at-3
-overflow_mul-at-3 g c = rw (c.SUBBANDS-subbands.ensures) (omega (arith, place-ahead c.args.newest c.args.b g.met.B.Bank.bands c.requires.0 c.requires.1))
+overflow_mul-at-3 g c =
+    let same = ap (λ (s : ℕ). c.args.b % 2 * s) c.SUBBANDS-subbands.ensures in
+    omega (arith, same, place-ahead c.args.newest c.args.b g.met.B.Bank.bands c.requires.0 c.requires.1)
 
 pub overflow_add-at-2 : goal.overflow_add-at-2
 overflow_add-at-2 g c = rw (c.SUBBANDS-subbands.ensures) (omega (arith, place-ahead c.args.newest c.args.b g.met.B.Bank.bands c.requires.0 c.requires.1))

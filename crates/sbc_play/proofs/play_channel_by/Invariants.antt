@@ -1,0 +1,25 @@
+-- `sbc_play::play_channel_by` meets its contract. The loop's invariant: the ring is that of the history after the blocks before `block`,
+-- and their samples stand in the channel's places.
+-- Assumes nothing.
+use Prim.Native.Nat.{ℕ, ◌*◌, ◌-◌, ◌≤◌}
+use mathlib.Core.Path.{◌≡◌}
+use mathlib.Core.List.{List}
+use lib.ListN.{length}
+use lib.IntN.{ℤ}
+use Rattle.sbc_filterbank.specs.declared.synthesis.Synthesis.{Synthesis}
+use Rattle.sbc_frame.specs.Channels.{synthesis_after}
+use Rattle.sbc_play.specs.Playing.{blocks_in, placed}
+use Rattle.sbc_play.proofs.Played.{pcm_of}
+use Rattle.sbc_play.proofs.play_channel_by.Given as goal
+
+abbrev pub invariant-loop-block : goal.invariant-loop-block
+invariant-loop-block g l =
+    let S = g.B.Bank.SUBBANDS in
+    (l.block ≤ l.blocks)
+    × (length l.after.values ≡ 160)
+    × (l.after ≡ synthesis_after S l.initial.after (blocks_in l.block S l.samples))
+    × (l.output
+    ≡ placed l.channel.count l.channel.index 0 (l.block * S) (pcm_of S l.initial.after l.samples l.block) l.initial.output)
+
+abbrev pub decreases-loop-block : goal.decreases-loop-block
+decreases-loop-block g l = l.blocks - l.block
