@@ -24,9 +24,7 @@ pub fn decode_frame(
     ensures output { output.new ≡ decode_fields parameters histories (unpack parameters frame.now) ++ drop (frame_samples parameters) output.old }
 {
     let samples = read_frame(parameters, frame);
-    let left = samples.left;
-    let right = samples.right;
-    play_frame(parameters, histories, &left, &right, output)
+    play_frame(parameters, histories, &samples.left, &samples.right, output)
 }
 
 // Leaves out the first samples of a frame's: the others move to the front, and the places behind them keep what they held.
@@ -34,10 +32,7 @@ pub fn leave_out(output: &mut [i16], gone: usize, samples: usize)
     requires { (gone ≤ samples) × (samples ≤ length output.old) }
     ensures { output.new ≡ take (samples - gone) (drop gone output.old) ++ drop (samples - gone) output.old }
 {
-    if gone == 0 {
-        return;
-    }
-    for i in 0..samples - gone {
-        output[i] = output[gone + i];
+    if gone != 0 {
+        output.copy_within(gone..samples, 0);
     }
 }

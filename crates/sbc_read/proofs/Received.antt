@@ -59,7 +59,7 @@ module _ (bytes : List ℕ) (position width count : ℕ) where
       go true e = get_or-build 8 _ s 0 (ltb-true s 8 e) ∙ rw (le-ltb s count h)
       go false e = get_or-build-out 8 _ s 0 (ltb-false s 8 e)
 
-  length-row_at : length (row_at bytes position width count) ≡ 8
+  pub length-row_at : length (row_at bytes position width count) ≡ 8
   unfolding row_at
   length-row_at = length-build 8 _
 
@@ -386,6 +386,10 @@ pub record Got (p : SbcParameters) (frame bytes left right : List ℕ) (table : 
   pub second_is : second ≡ total 8 (entry (get_or table 0 []))
   pub bits_are : bits ≡ block_bits p
   pub bits-high : bits ≤ 510
+
+-- the widths of a table
+pub widths_16 : (p : SbcParameters) (rows : List (List ℕ)) {table : List (List ℕ)} → table ≡ allocation_table p rows → (c s : ℕ) → entry (get_or table c []) s ≤ 16
+widths_16 p rows e c s = rw e (table-16 p rows c s)
 
 -- what a channel is read from
 abbrev pub Asks : ℕ → List ℕ → List ℕ → List ℕ → ℕ → ℕ → Type 0

@@ -11,8 +11,8 @@ ghost use Rattle.sbc_frame.specs.Layout.{unpack};
 ghost use Rattle.sbc_frame.specs.Arrays.{with_subband, sample_in, samples_array, entry, Small, with_flagged};
 ghost use Rattle.sbc_read.specs.Reading.{row_at, flag_row, left_factors, right_factors, value_of, channel_values, channel_array};
 
-use laws::wide;
 use sbc_allocation::allocate;
+use sbc_frame::{Factors, Quantization};
 use sbc_parameters::SbcParameters;
 use sbc_quantizer::Dequantizer;
 
@@ -23,12 +23,25 @@ pub struct Samples {
     pub right: [i32; 128],
 }
 
-// The join flags and the scale factors of a frame, in rows of eight with zeros behind them.
+// The join flags of a frame, by subband with zeros behind them, and its scale factors.
 #[derive(Clone, Copy)]
 struct Side {
     flags: [u8; 8],
-    left: [u8; 8],
-    right: [u8; 8],
+    factors: Factors,
+}
+
+// Where the values of a channel stand, and how they are quantized: the bit of the first value, the bits of a block, and how many blocks there are. All
+// of them stand in a frame that has zeros behind it.
+#[derive(Clone, Copy)]
+struct Values {
+    quantization: Quantization,
+    position: usize,
+    block_bits: usize,
+    blocks: usize,
+    ghost some_blocks: { 0 < blocks },
+    ghost few_blocks: { blocks ≤ 16 },
+    ghost few_bits: { block_bits ≤ 510 },
+    ghost room: { (b : ℕ) → b < blocks → position + b * block_bits + total 8 (entry quantization.widths) ≤ 4192 },
 }
 
 // The frame with zeros behind it, so that four bytes stand from each of its bytes on.
@@ -36,27 +49,22 @@ fn padded(frame: &[u8]) -> [u8; 528]
     requires { length frame.now ≤ 524 }
     ensures { result ≡ frame.now ++ replicate (528 - length frame.now) 0 }
 {
-    let mut bytes = [0u8; 528];
-    for i in 0..frame.len() {
-        bytes[i] = frame[i];
-    }
+    let mut bytes = [0; 528];
+    bytes[..frame.len()].copy_from_slice(frame);
     bytes
 }
 
 // Four bytes as one number, the high byte first.
 fn word(bytes: &[u8; 528], at: usize) -> u32
-    requires { (length bytes.now ≡ 528) × (at + 4 ≤ 528) }
+    requires { at + 4 ≤ 528 }
     ensures { result ≡ number_of (bits_of_bytes (take 4 (drop at bytes.now))) }
 {
-    wide(bytes[at]) * 16777216
-        + wide(bytes[at + 1]) * 65536
-        + wide(bytes[at + 2]) * 256
-        + wide(bytes[at + 3])
+    u32::from_be_bytes([bytes[at], bytes[at + 1], bytes[at + 2], bytes[at + 3]])
 }
 
 // The number that `count` bits from bit `position` on write. They stand in four bytes.
 fn number_at(bytes: &[u8; 528], position: usize, count: u32) -> u32
-    requires { (length bytes.now ≡ 528) × (0 < count) × (count ≤ 16) × (position ≤ 4192) }
+    requires { (0 < count) × (count ≤ 16) × (position ≤ 4192) }
     ensures { (result ≡ number_at bytes.now position count) × (result < 2 ^ count) }
 {
     let low = 32 - (position % 8) as u32 - count;
@@ -65,7 +73,7 @@ fn number_at(bytes: &[u8; 528], position: usize, count: u32) -> u32
 
 // `count` numbers of `width` bits each, end to end from `position` on.
 fn read_row(bytes: &[u8; 528], position: usize, width: u32, count: usize) -> [u8; 8]
-    requires { (length bytes.now ≡ 528) × (0 < width) × (width ≤ 4) × (count ≤ 8) × (position + count * width ≤ 4192) }
+    requires { (0 < width) × (width ≤ 4) × (count ≤ 8) × (position + count * width ≤ 4192) }
     ensures { result ≡ row_at bytes.now position width count }
 {
     let mut row = [0u8; 8];
@@ -77,75 +85,55 @@ fn read_row(bytes: &[u8; 528], position: usize, width: u32, count: usize) -> [u8
     row
 }
 
-// The samples of one subband, whose values have `width` bits and stand `block_bits` apart.
-fn read_subband(
-    samples: &mut [i32; 128],
-    bytes: &[u8; 528],
-    position: usize,
-    block_bits: usize,
-    width: u8,
-    factor: u8,
-    subband: usize,
-    blocks: usize,
-)
-    requires { (length samples.old ≡ 128) × (length bytes.now ≡ 528) × (0 < width) × (width ≤ 16) × (factor ≤ 15) × (subband < 8) × (blocks ≤ 16) × (block_bits ≤ 510) × ((b : ℕ) → b < blocks → position + b * block_bits + width ≤ 4192) }
-    ensures { samples.new ≡ with_subband blocks subband (value_of bytes.now position block_bits width factor) samples.old }
-{
-    let dequantizer = Dequantizer::new(width, factor);
-    let mut at = position;
-    for block in 0..blocks {
-        samples[8 * block + subband] = dequantizer.apply(number_at(bytes, at, width as u32));
-        at += block_bits;
-    }
-}
-
-// The samples of one channel, whose first value stands at bit `position`. A subband of 0 bits has no values, and its samples are 0.
-fn read_channel(
-    bytes: &[u8; 528],
-    widths: &[u8; 8],
-    factors: &[u8; 8],
-    position: usize,
-    block_bits: usize,
-    blocks: usize,
-) -> [i32; 128]
-    requires { (length bytes.now ≡ 528) × ((s : ℕ) → entry widths.now s ≤ 16) × ((s : ℕ) → entry factors.now s ≤ 15) × (0 < blocks) × (blocks ≤ 16) × (block_bits ≤ 510) × ((b : ℕ) → b < blocks → position + b * block_bits + total 8 (entry widths.now) ≤ 4192) }
-    ensures { result ≡ samples_array blocks (channel_values bytes.now widths.now factors.now position block_bits blocks) }
-{
-    let mut samples = [0i32; 128];
-    let mut at = position;
-    for subband in 0..8 {
-        let width = widths[subband];
-        if width != 0 {
-            read_subband(
-                &mut samples,
-                bytes,
-                at,
-                block_bits,
-                width,
-                factors[subband],
-                subband,
-                blocks,
-            );
-            at += width as usize;
+impl Values {
+    // The samples of one subband, whose first value stands at bit `at`.
+    fn read_subband(&self, samples: &mut [i32; 128], bytes: &[u8; 528], subband: usize, at: usize)
+        requires subband { subband < 8 }
+        requires some { 0 < entry self.now.quantization.widths subband }
+        requires place { at ≡ self.now.position + total subband (entry self.now.quantization.widths) }
+        ensures { samples.new ≡ with_subband self.now.blocks subband (value_of bytes.now at self.now.block_bits (entry self.now.quantization.widths subband) (entry self.now.quantization.factors subband)) samples.old }
+    {
+        let width = self.quantization.widths[subband];
+        let step = self.block_bits;
+        let dequantizer = Dequantizer::new(width, self.quantization.factors[subband]);
+        let mut next = at;
+        for block in 0..self.blocks {
+            samples[8 * block + subband] = dequantizer.apply(number_at(bytes, next, width as u32));
+            next += step;
         }
     }
-    samples
+
+    // The samples of the channel. A subband of 0 bits has no values, and its samples are 0.
+    fn read(&self, bytes: &[u8; 528]) -> [i32; 128]
+        ensures { result ≡ samples_array self.now.blocks (channel_values bytes.now self.now.quantization.widths self.now.quantization.factors self.now.position self.now.block_bits self.now.blocks) }
+    {
+        let mut samples = [0; 128];
+        let mut at = self.position;
+        for subband in 0..8 {
+            let width = self.quantization.widths[subband];
+            if width != 0 {
+                self.read_subband(&mut samples, bytes, subband, at);
+                at += width as usize;
+            }
+        }
+        samples
+    }
 }
 
 // The sum of a row.
 fn row_total(row: &[u8; 8]) -> usize
     ensures { (result ≡ total 8 (entry row.now)) × (result ≤ 2040) }
 {
-    let mut sum: usize = 0;
-    for s in 0..8 {
-        sum += wide(row[s]) as usize;
+    let mut sum = 0;
+    for entry in row {
+        sum += *entry as usize;
     }
     sum
 }
 
 // Sum and difference of one subband, in place of left and right.
 fn join_subband(left: &mut [i32; 128], right: &mut [i32; 128], subband: usize, blocks: usize)
-    requires { (length left.old ≡ 128) × (length right.old ≡ 128) × (subband < 8) × (blocks ≤ 16) × ((b : ℕ) → b < blocks → (nat_abs (sample_in left.old b subband) ≤ 2 ^ 27) × (nat_abs (sample_in right.old b subband) ≤ 2 ^ 27)) }
+    requires { (subband < 8) × (blocks ≤ 16) × ((b : ℕ) → b < blocks → (nat_abs (sample_in left.old b subband) ≤ 2 ^ 27) × (nat_abs (sample_in right.old b subband) ≤ 2 ^ 27)) }
     ensures { (left.new ≡ with_subband blocks subband (λ b. sample_in left.old b subband +ℤ sample_in right.old b subband) left.old) × (right.new ≡ with_subband blocks subband (λ b. sample_in left.old b subband -ℤ sample_in right.old b subband) right.old) }
 {
     for block in 0..blocks {
@@ -159,7 +147,7 @@ fn join_subband(left: &mut [i32; 128], right: &mut [i32; 128], subband: usize, b
 
 // Sum and difference for every join flag that is set.
 fn join(left: &mut [i32; 128], right: &mut [i32; 128], flags: &[u8; 8], blocks: usize)
-    requires { (length left.old ≡ 128) × (length right.old ≡ 128) × (blocks ≤ 16) × (Small blocks (2 ^ 27) left.old) × (Small blocks (2 ^ 27) right.old) }
+    requires { (blocks ≤ 16) × (Small blocks (2 ^ 27) left.old) × (Small blocks (2 ^ 27) right.old) }
     ensures left { left.new ≡ with_flagged blocks flags.now (λ b s. sample_in left.old b s +ℤ sample_in right.old b s) left.old }
     ensures right { right.new ≡ with_flagged blocks flags.now (λ b s. sample_in left.old b s -ℤ sample_in right.old b s) right.old }
 {
@@ -172,18 +160,20 @@ fn join(left: &mut [i32; 128], right: &mut [i32; 128], flags: &[u8; 8], blocks: 
 
 // The join flags and scale factors of a frame, whose bytes have zeros behind them.
 fn read_side(parameters: SbcParameters, bytes: &[u8; 528]) -> Side
-    requires { (accepted parameters ≡ true) × (length bytes.now ≡ 528) }
+    requires { accepted parameters ≡ true }
     ensures flags { result.flags ≡ flag_row parameters bytes.now }
-    ensures left { result.left ≡ left_factors parameters bytes.now }
-    ensures right { result.right ≡ right_factors parameters bytes.now }
+    ensures left { result.factors.left ≡ left_factors parameters bytes.now }
+    ensures right { result.factors.right ≡ right_factors parameters bytes.now }
 {
     let joins = parameters.join_count();
     let subbands = parameters.subbands as usize;
     let others = subbands * (parameters.channels() as usize - 1);
     Side {
         flags: read_row(bytes, 32, 1, joins),
-        left: read_row(bytes, 32 + joins, 4, subbands),
-        right: read_row(bytes, 32 + joins + 4 * subbands, 4, others),
+        factors: Factors {
+            left: read_row(bytes, 32 + joins, 4, subbands),
+            right: read_row(bytes, 32 + joins + 4 * subbands, 4, others),
+        },
     }
 }
 
@@ -196,31 +186,35 @@ pub fn read_frame(parameters: SbcParameters, frame: &[u8]) -> Samples
 {
     let bytes = padded(frame);
     let side = read_side(parameters, &bytes);
-    let left_factors = side.left;
-    let right_factors = side.right;
+    let factors = side.factors;
+    let left_factors = factors.left;
+    let right_factors = factors.right;
     let widths = allocate(parameters, [left_factors, right_factors]);
     let left_widths = widths[0];
-    let right_widths = widths[1];
     let first = 32 + parameters.side_bits();
     let second = first + row_total(&left_widths);
     let block_bits = parameters.block_bits();
     let blocks = parameters.blocks as usize;
-    let mut left = read_channel(
-        &bytes,
-        &left_widths,
-        &left_factors,
-        first,
+    let left_values = Values {
+        quantization: Quantization {
+            widths: left_widths,
+            factors: left_factors,
+        },
+        position: first,
         block_bits,
         blocks,
-    );
-    let mut right = read_channel(
-        &bytes,
-        &right_widths,
-        &right_factors,
-        second,
+    };
+    let right_values = Values {
+        quantization: Quantization {
+            widths: widths[1],
+            factors: right_factors,
+        },
+        position: second,
         block_bits,
         blocks,
-    );
+    };
+    let mut left = left_values.read(&bytes);
+    let mut right = right_values.read(&bytes);
     let flags = side.flags;
     join(&mut left, &mut right, &flags, blocks);
     Samples { left, right }

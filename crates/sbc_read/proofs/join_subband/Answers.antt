@@ -55,21 +55,21 @@ module _ (left₀ right₀ left right : List ℤ) (b s : ℕ) (h : s < 8) (k : b
 pub loop-block-init : goal.loop-block-init
 loop-block-init c = (
   omega arith,
-  none-replaced c.args.subband (sums c.args.left.now c.args.right.now c.args.subband) c.args.left.now c.requires.0,
-  none-replaced c.args.subband (differences c.args.left.now c.args.right.now c.args.subband) c.args.right.now c.requires.1,
+  none-replaced c.args.subband (sums c.args.left.now c.args.right.now c.args.subband) c.args.left.now c.told-left,
+  none-replaced c.args.subband (differences c.args.left.now c.args.right.now c.args.subband) c.args.right.now c.told-right,
 )
 
 pub overflow_add-left : goal.overflow_add-left
 overflow_add-left c =
     let l = c.loop-block in
     sum-fits c.args.left.now c.args.right.now l.left l.right l.block c.args.subband (omega arith) (omega arith) l.invariant.1 l.invariant.2
-    (c.requires.4 l.block (omega arith))
+    (c.requires.2 l.block (omega arith))
 
 pub overflow_sub-right : goal.overflow_sub-right
 overflow_sub-right c =
     let l = c.loop-block in
     differs-fits c.args.left.now c.args.right.now l.left l.right l.block c.args.subband (omega arith) (omega arith) l.invariant.1
-    l.invariant.2 (c.requires.4 l.block (omega arith))
+    l.invariant.2 (c.requires.2 l.block (omega arith))
 
 pub loop-block-preserved : goal.loop-block-preserved
 loop-block-preserved c =
@@ -83,7 +83,7 @@ loop-block-preserved c =
     let k : b < 16 = omega arith in
     let e = c.loop-block.invariant.1 in
     let d = c.loop-block.invariant.2 in
-    let small = c.requires.4 b (omega arith) in (
+    let small = c.requires.2 b (omega arith) in (
       omega arith,
       replace-next s (sums left₀ right₀ s) left₀ h b left _ e (sum-fits left₀ right₀ left right b s h k e d small)
           (sum_value left₀ right₀ left right b s h k e d small),

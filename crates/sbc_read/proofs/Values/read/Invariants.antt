@@ -1,4 +1,4 @@
--- `sbc_read::read_channel` meets its contract. The loop's invariant: the subbands passed have their samples, the others and what is
+-- `Values::read` meets its contract. The loop's invariant: the subbands passed have their samples, the others and what is
 -- behind the blocks have zeros, and where the next subband's first value stands.
 -- Assumes nothing.
 use Prim.Native.Nat.{◌+◌, ◌-◌, ◌≤◌}
@@ -10,13 +10,14 @@ use Rattle.sbc_frame.specs.Arrays.{entry}
 use Rattle.sbc_frame.proofs.Columns.{Mixed}
 use Rattle.sbc_frame.proofs.Flagged.{Behind}
 use Rattle.sbc_read.proofs.Arrays.{channel_value}
-use Rattle.sbc_read.proofs.read_channel.Given as goal
+use Rattle.sbc_read.proofs.Values.read.Given as goal
 
 abbrev pub invariant-loop-subband : goal.invariant-loop-subband
 invariant-loop-subband l =
-    (l.subband ≤ 8) × (length l.samples ≡ 128) × (l.at ≡ l.position + total l.subband (entry l.widths))
-    × Mixed l.blocks (channel_value l.bytes l.widths l.factors l.position l.block_bits l.blocks) (λ _ _. pos 0) l.subband l.samples
-    × Behind l.blocks (λ _ _. pos 0) l.samples
+    (l.subband ≤ 8) × (length l.samples ≡ 128) × (l.at ≡ l.self.position + total l.subband (entry l.self.quantization.widths))
+    × Mixed l.self.blocks
+    (channel_value l.bytes l.self.quantization.widths l.self.quantization.factors l.self.position l.self.block_bits l.self.blocks) (λ _ _. pos 0) l.subband l.samples
+    × Behind l.self.blocks (λ _ _. pos 0) l.samples
 
 abbrev pub decreases-loop-subband : goal.decreases-loop-subband
 decreases-loop-subband l = 8 - l.subband
