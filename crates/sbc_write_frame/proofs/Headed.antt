@@ -1,10 +1,10 @@
 -- A frame as it is written: the header, then the body behind the checksum, whose writer begins with no bits.
 -- Assumes nothing.
 use Prim.Native.Nat.{ℕ, ◌-◌, ◌≤◌}
-use mathlib.Core.Path.{◌≡◌, refl, ap, ◌∙◌}
+use mathlib.Core.Path.{◌≡◌, refl, ◌∙◌}
 use mathlib.Core.List.{List, [], ◌∷◌, ◌++◌}
 use native.Mathlib.Omega.{arith}
-use lib.ListN.{length, get_or, take, set, length-set}
+use lib.ListN.{length, get_or, take, drop, length-append, length-drop}
 use borrow.Rule.Slice.PartMut.{put_mid}
 use Rattle.laws.specs.Bits.{bits_of, bits_of_bytes}
 use Rattle.laws.proofs.Parts.{put-tail}
@@ -12,25 +12,23 @@ use Rattle.sbc_write.specs.Writing.{bits_behind}
 
 -- ---- a frame as it is written: the bytes of the header first
 abbrev pub headed : List ℕ → List ℕ → List ℕ
-headed h frame = set (set (set frame 0 (get_or h 0 0)) 1 (get_or h 1 0)) 2 (get_or h 2 0)
+headed h frame = h ++ drop 3 frame
 
-pub length-headed : (h frame : List ℕ) → length (headed h frame) ≡ length frame
-length-headed h frame = simp length-set
+pub length-headed : (h frame : List ℕ) → length h ≡ 3 → 3 ≤ length frame → length (headed h frame) ≡ length frame
+length-headed h frame e l = length-append h (drop 3 frame) ∙ omega (arith, length-drop 3 frame, e)
 
 -- then the part behind the checksum, lent and come back
 pub bodied : (h frame rest : List ℕ) → length h ≡ 3 → 4 ≤ length frame
     → put_mid 4 (length (headed h frame) - 4) (headed h frame) rest ≡ h ++ (get_or frame 3 0 ∷ rest)
-bodied h frame rest e l = put-tail 4 (headed h frame) rest (omega (arith, length-headed h frame)) ∙ front h frame e l
+bodied h frame rest e l =
+    put-tail 4 (headed h frame) rest (omega (arith, length-headed h frame e (omega arith))) ∙ front h frame e l
   where
-    first : (a b c : ℕ) (frame : List ℕ) → 4 ≤ length frame → take 4 (headed (a ∷ b ∷ c ∷ []) frame) ≡ a ∷ b ∷ c ∷ get_or frame 3 0 ∷ []
-    first a b c (_ ∷ _ ∷ _ ∷ d ∷ frame) l = refl
-    first a b c [] l = absurd (omega arith)
-    first a b c (_ ∷ []) l = absurd (omega arith)
-    first a b c (_ ∷ _ ∷ []) l = absurd (omega arith)
-    first a b c (_ ∷ _ ∷ _ ∷ []) l = absurd (omega arith)
-
     front : (h frame : List ℕ) → length h ≡ 3 → 4 ≤ length frame → take 4 (headed h frame) ++ rest ≡ h ++ (get_or frame 3 0 ∷ rest)
-    front (a ∷ b ∷ c ∷ []) frame e l = ap (λ (t : List ℕ). t ++ rest) (first a b c frame l)
+    front (a ∷ b ∷ c ∷ []) (_ ∷ _ ∷ _ ∷ d ∷ frame) e l = refl
+    front (a ∷ b ∷ c ∷ []) [] e l = absurd (omega arith)
+    front (a ∷ b ∷ c ∷ []) (_ ∷ []) e l = absurd (omega arith)
+    front (a ∷ b ∷ c ∷ []) (_ ∷ _ ∷ []) e l = absurd (omega arith)
+    front (a ∷ b ∷ c ∷ []) (_ ∷ _ ∷ _ ∷ []) e l = absurd (omega arith)
     front [] frame e l = absurd (omega arith)
     front (a ∷ []) frame e l = absurd (omega arith)
     front (a ∷ b ∷ []) frame e l = absurd (omega arith)

@@ -58,9 +58,7 @@ pub fn write_frame(accepted: AcceptedSet, frame: &mut [u8], coding: &CodedFrame)
 {
     let set = accepted.set;
     let header = set.header();
-    frame[0] = header[0];
-    frame[1] = header[1];
-    frame[2] = header[2];
+    frame[..3].copy_from_slice(&header);
     write_body(accepted, &mut frame[4..], coding);
     let side_bits = set.side_bits();
     frame[3] = crc8::checksum(frame, side_bits);
