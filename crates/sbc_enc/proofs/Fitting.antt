@@ -1,11 +1,12 @@
 -- An encode call that is not refused consumed no more than its input, and produced no more than its output has room for.
 -- Assumes nothing.
 use Prim.Native.Nat.{ℕ, ◌*◌, ◌/◌, ◌≤◌, min}
-use mathlib.Core.Path.{◌≡◌, sym, subst}
+use mathlib.Core.Path.{◌≡◌, sym, ap, subst}
 use mathlib.Core.List.{List}
 use native.Mathlib.Omega.{arith}
 use lib.ListN.{length, take}
 use lib.IntN.{ℤ}
+use Rattle.std.specs.Prelude.{Ok}
 use Rattle.laws.specs.Answers.{gives}
 use Rattle.laws.proofs.Answers.{gives_same, gives-refuses}
 use Rattle.laws.proofs.Lists.{length-build}
@@ -15,6 +16,7 @@ use Rattle.codec.specs.Answers.{progress_of}
 use Rattle.codec.specs.declared.Progress.{Progress}
 use Rattle.codec.proofs.Fitting.{fits_in, fits_out}
 use Rattle.sbc_encoder.specs.Encode.{encode_frames, encode}
+use Rattle.sbc_encoder.specs.Told.{told_encoded}
 use Rattle.sbc_encoder.specs.declared.SbcEncoder.{SbcEncoder}
 use Rattle.sbc_encoder.proofs.Writing.{encode-cases}
 
@@ -45,3 +47,10 @@ given-within e raw room output progress q =
     let count = min (length raw / 2) room in
     let fits = given-fits e (samples_in count (take (2 * count) raw)) output progress q in
     (omega (arith, fits.0, samples-count count (take (2 * count) raw)), fits.1)
+
+-- as the code tells it
+pub told-within : (e next : SbcEncoder) (raw : List ℕ) (room : ℕ) (output exit : List ℕ) (progress : Progress)
+    → let count = min (length raw / 2) room in
+    told_encoded (Ok progress) next exit ≡ encode e (samples_in count (take (2 * count) raw)) output
+    → (2 * progress.consumed ≤ length raw) × (progress.produced ≤ length output)
+told-within e next raw room output exit progress q = given-within e raw room output progress (ap (λ r. r.answer) (sym q))

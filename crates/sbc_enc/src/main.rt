@@ -13,9 +13,8 @@ ghost use Rattle.pcm.specs.Samples.{samples_in};
 ghost use Rattle.sbc_encoder.specs.Encode.{encode};
 ghost use Rattle.sbc_encoder.specs.Told.{told_encoded};
 
-use codec::Coded;
+use codec::{Error, Progress};
 use sbc_encoder::SbcEncoder;
-use sbc_parameters::Validated;
 use std::env::Env;
 use std::io;
 use stream::{Coder, Stop};
@@ -43,20 +42,21 @@ impl Coder for Encoding {
         ≡ record { answer = gives (progress_of consumed produced); encoder = new.encoder; output = new.frames }) };
 
     fn code(&mut self, rt: &impl Print, raw: &[u8]) -> Result<usize, Stop> {
-        match encode(&mut self.encoder, raw, &mut self.samples, &mut self.frames) {
-            Coded::Done(progress) => {
-                rt.write_all(&self.frames[..progress.produced])?;
-                Ok(2 * progress.consumed)
-            }
-            Coded::Refused(error) => Err(Stop::Refused(error)),
-        }
+        let progress = encode(&mut self.encoder, raw, &mut self.samples, &mut self.frames)?;
+        rt.write_all(&self.frames[..progress.produced])?;
+        Ok(2 * progress.consumed)
     }
 }
 
 // Encodes the samples of the raw bytes, as many as there is room for.
-fn encode(encoder: &mut SbcEncoder, raw: &[u8], samples: &mut [i16], frames: &mut [u8]) -> Coded
+fn encode(
+    encoder: &mut SbcEncoder,
+    raw: &[u8],
+    samples: &mut [i16],
+    frames: &mut [u8],
+) -> Result<Progress, Error>
     ensures { let count = min (length raw.now / 2) (length samples.old) in
-        told_encoded (record { answer = result; encoder = encoder.new }) frames.new
+        told_encoded result encoder.new frames.new
         ≡ encode encoder.old (samples_in count (take (2 * count) raw.now)) frames.old }
 {
     let count = (raw.len() / 2).min(samples.len());
@@ -66,13 +66,9 @@ fn encode(encoder: &mut SbcEncoder, raw: &[u8], samples: &mut [i16], frames: &mu
 }
 
 fn encode_all(rt: &(impl Env + AllocGlobal + Input + Print)) -> Result<(), Stop> {
-    let created = SbcEncoder::new(settings::of_arguments(rt)?);
-    if let Validated::Refused(error) = created.outcome {
-        return Err(Stop::Refused(error));
-    }
     let mut raw = [0u8; 32768];
     let mut encoding = Encoding {
-        encoder: created.encoder,
+        encoder: SbcEncoder::new(settings::of_arguments(rt)?)?,
         samples: [0; 16384],
         frames: [0; 65536],
     };
