@@ -1,5 +1,5 @@
-// One frame of an SBC stream: what the code of both directions holds of it. Its definitions stand in specs/, and their laws in proofs/; the code that
-// decodes and encodes one is in the crates sbc_decode_frame and sbc_encode_frame.
+// One frame of an SBC stream: what the code of both directions holds of it. Its definitions stand in specs/, and their laws in proofs/; the
+// code that decodes and encodes one is in the crates sbc_decode_frame and sbc_encode_frame.
 #![tactic(auto)]
 
 ghost use Rattle.std.specs.Prelude.{ℕ, ◌≡◌, ◌≤◌, length};
@@ -26,6 +26,8 @@ pub struct Quantization {
 }
 
 // What is coded of a frame: join flags by subband, scale factors, and the samples of both channels, eight places a block.
+// Kept: the flags are 0 and 1 in a row of numbers, since the functions that write and read the scale factors write and read them too.
+// Kept: left and right by name, here and in `Factors`; an array of two is no plainer: each is lent by itself, and a sum takes both.
 #[derive(Clone, Copy)]
 pub struct CodedFrame {
     pub flags: [u8; 8],

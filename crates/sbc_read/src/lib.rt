@@ -30,8 +30,8 @@ struct Side {
     factors: Factors,
 }
 
-// Where the values of a channel stand, and how they are quantized: the bit of the first value, the bits of a block, and how many blocks there are. All
-// of them stand in a frame that has zeros behind it.
+// Where the values of a channel stand, and how they are quantized: the bit of the first value, the bits of a block, and how many blocks there
+// are. All of them stand in a frame that has zeros behind it.
 #[derive(Clone, Copy)]
 struct Values {
     quantization: Quantization,
