@@ -1,25 +1,14 @@
 -- What is told of an answer determines the answer: a contract on what is told fixes what is returned.
 -- Assumes nothing.
 use Prim.Native.Nat.{ℕ}
-use mathlib.Core.Path.{◌≡◌, refl, ap}
+use mathlib.Core.Path.{◌≡◌, ap}
 use mathlib.Core.List.{List}
 use Rattle.std.specs.Prelude.{Result, Ok, Err}
-use Rattle.bits.specs.Fields.{error_number, told, told_read, told_written}
-use Rattle.bits.specs.declared.Error.{Error}
-use Rattle.bits.specs.declared.Error.TheVariants.{Incomplete, BufferTooSmall}
+use Rattle.codec.specs.Errors.{error_number}
+use Rattle.codec.proofs.Answering.{error-determined}
+use Rattle.codec.specs.declared.Error.{Error}
+use Rattle.bits.specs.Fields.{told_read, told_written}
 use Rattle.bits.specs.declared.Read.{Read}
-
-error-determined : (a b : Error) → error_number a ≡ error_number b → a ≡ b
-error-determined Incomplete Incomplete h = refl
-error-determined Incomplete BufferTooSmall h = cc
-error-determined BufferTooSmall Incomplete h = cc
-error-determined BufferTooSmall BufferTooSmall h = refl
-
-pub told-determined : {A : Type 0} (a b : Result A Error) → told a ≡ told b → a ≡ b
-told-determined (Ok v) (Ok w) h = let e : v ≡ w = cc in ap Ok e
-told-determined (Ok v) (Err e) h = cc
-told-determined (Err e) (Ok w) h = cc
-told-determined (Err d) (Err e) h = let n : error_number d ≡ error_number e = cc in ap Err (error-determined d e n)
 
 pub read-determined : (position : ℕ) (a b : Result Read Error) → told_read position a ≡ told_read position b → a ≡ b
 unfolding told_read

@@ -2,8 +2,8 @@
 use Rattle.std.specs.Prelude.{ℕ, ◌+◌, ◌-◌, ◌*◌, ◌^◌, min, Bool, ◌&&◌, List, ◌++◌, Result, Ok, Err, eqb, leb, length, take, drop, if◌then◌else◌}
 use Rattle.laws.specs.Answers.{Told, gives, refuses}
 use Rattle.laws.specs.Bits.{bits_of, number_of, bits_of_bytes, bytes_of}
-use Rattle.bits.specs.declared.Error.{Error}
-use Rattle.bits.specs.declared.Error.TheVariants.{Incomplete, BufferTooSmall}
+use Rattle.codec.specs.Errors.{error_number}
+use Rattle.codec.specs.declared.Error.{Error}
 use Rattle.bits.specs.declared.Read.{Read}
 
 -- the position behind the last bit; a position is a usize, so bits that 2 ^ 61 bytes or more have beyond those are out of reach
@@ -13,16 +13,6 @@ bit_end bytes = min (8 * length bytes) (2 ^ 64 - 1)
 -- 32 bits at most, and none past the end
 unfoldable pub inside : List ℕ → ℕ → ℕ → Bool
 inside bytes position count = leb count 32 && leb (position + count) (bit_end bytes)
-
--- a refusal's number, as document 01 gives them
-abbrev pub error_number : Error → ℕ
-error_number Incomplete = 1
-error_number BufferTooSmall = 5
-
--- what is told of an answer
-abbrev pub told : {A : Type 0} → Result A Error → Told A
-told (Ok a) = gives a
-told (Err e) = refuses (error_number e)
 
 -- ---- reading
 

@@ -5,12 +5,7 @@ ghost use Rattle.std.specs.Prelude.{◌≡◌, ◌++◌, ◌+◌, ◌*◌, ◌<�
 ghost use Rattle.laws.specs.Bits.{bits_of, number_of, bits_of_bytes};
 ghost use Rattle.bits.specs.Fields.{inside, number_at, overwritten, told_read, read_at, told_written, write_at};
 
-// Why bits are not read, or not written: they run past the end.
-#[derive(Clone, Copy, Debug, PartialEq, Eq)]
-pub enum Error {
-    Incomplete,
-    BufferTooSmall,
-}
+use codec::Error;
 
 // The number that a read found, and the position after it.
 #[derive(Clone, Copy)]

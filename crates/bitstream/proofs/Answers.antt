@@ -4,9 +4,9 @@
 use mathlib.Core.Path.{◌≡◌, ap}
 use Rattle.std.specs.Prelude.{Result}
 use Rattle.laws.specs.Answers.{Told}
-use Rattle.bits.specs.Fields.{told}
-use Rattle.bits.specs.declared.Error.{Error}
-use Rattle.bits.proofs.Answers.{told-determined}
+use Rattle.codec.specs.Answers.{told}
+use Rattle.codec.specs.declared.Error.{Error}
+use Rattle.codec.proofs.Answering.{told-determined}
 
 -- what is told beside any state, a reader or a writer
 pub both-determined : {A S : Type 0} (a b : Result A Error) (r s : S) → ◌≡◌ {A = Told A × S} (told a, r) (told b, s) → (a ≡ b) × (r ≡ s)

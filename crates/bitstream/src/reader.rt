@@ -1,10 +1,12 @@
 // A reader that holds its bytes and a position, thin over `read_at`: what is to be decided is decided by the function on a slice and a
 // number.
 ghost use Rattle.std.specs.Prelude.{◌≡◌};
-ghost use Rattle.bits.specs.Fields.{told, told_read, read_at};
+ghost use Rattle.codec.specs.Answers.{told};
+ghost use Rattle.bits.specs.Fields.{told_read, read_at};
 ghost use Rattle.bitstream.specs.Held.{reader_over, read_by};
 
-use bits::{Error, Read, read_at};
+use bits::{Read, read_at};
+use codec::Error;
 
 // The bytes of a frame, and the position of the bit to be read next.
 #[derive(Clone, Copy)]

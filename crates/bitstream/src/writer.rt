@@ -1,9 +1,11 @@
 // A writer that holds its bytes and a position, thin over `write_at`, as the reader is over `read_at`.
 ghost use Rattle.std.specs.Prelude.{◌≡◌};
-ghost use Rattle.bits.specs.Fields.{told, told_written, write_at};
+ghost use Rattle.codec.specs.Answers.{told};
+ghost use Rattle.bits.specs.Fields.{told_written, write_at};
 ghost use Rattle.bitstream.specs.Held.{writer_over, write_by};
 
-use bits::{Error, write_at};
+use bits::write_at;
+use codec::Error;
 
 // The bytes lent for a frame, and the position of the bit to be written next.
 #[derive(Drop)]
