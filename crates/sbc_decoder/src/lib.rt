@@ -115,7 +115,7 @@ impl SbcDecoder {
     {
         let set = accepted.set;
         let histories = self.start_histories(set);
-        self.synthesis = decode_frame(set, histories, frame, output);
+        self.synthesis = decode_frame(accepted, histories, frame, output);
         let dropped = self.skip.min(set.samples_per_channel());
         let gone = dropped * usize::from(set.channels());
         let samples = set.frame_samples();

@@ -1,10 +1,10 @@
 // The subband samples of a frame's channels to PCM, block by block through each channel's synthesis filterbank.
 #![tactic(auto)]
 
-ghost use Rattle.std.specs.Prelude.{◌≡◌, true, [], ◌∷◌, ◌++◌, ℕ, ◌+◌, ◌*◌, ◌^◌, ◌≤◌, ◌<◌, length, get_or, drop, pos, nat_abs};
+ghost use Rattle.std.specs.Prelude.{◌≡◌, [], ◌∷◌, ◌++◌, ℕ, ◌+◌, ◌*◌, ◌^◌, ◌≤◌, ◌<◌, length, get_or, drop, pos, nat_abs};
 ghost use Rattle.laws.specs.Lists.{build};
 ghost use Rattle.sbc_filterbank.specs.Subbands.{Bands};
-ghost use Rattle.sbc_parameters.specs.Parameters.{accepted, channels};
+ghost use Rattle.sbc_parameters.specs.Parameters.{channels};
 ghost use Rattle.sbc_parameters.specs.Sizes.{frame_samples};
 ghost use Rattle.sbc_frame.specs.Channels.{interleave, no_synthesis, synthesized, synthesize, synthesize_blocks, synthesis_after};
 ghost use Rattle.sbc_frame.specs.Arrays.{sample_in, Small};
@@ -12,7 +12,7 @@ ghost use Rattle.sbc_play.specs.Playing.{blocks_in, placed, histories_after};
 
 use sbc_filterbank::{PcmChannel, Synthesis};
 use sbc_modulate::SynthesisBank;
-use sbc_parameters::SbcParameters;
+use sbc_parameters::AcceptedSet;
 use sbc_synthesize::synthesize_by;
 use sbc_tables::{Bank, Eight, Four};
 
@@ -103,23 +103,24 @@ fn play_channel(
 
 // All channels of a frame. A history of a channel that the frame does not have stays as it is.
 pub fn play_frame(
-    parameters: SbcParameters,
+    accepted: AcceptedSet,
     histories: [Synthesis; 2],
     left: &[i32; 128],
     right: &[i32; 128],
     output: &mut [i16],
 ) -> [Synthesis; 2]
-    requires { (accepted parameters ≡ true) × (Small parameters.blocks (2 ^ 28) left.now) × (Small parameters.blocks (2 ^ 28) right.now)
-        × (frame_samples parameters ≤ length output.old) }
-    ensures histories { result ≡ histories_after parameters histories left.now right.now }
+    requires { (Small accepted.set.blocks (2 ^ 28) left.now) × (Small accepted.set.blocks (2 ^ 28) right.now)
+        × (frame_samples accepted.set ≤ length output.old) }
+    ensures histories { result ≡ histories_after accepted.set histories left.now right.now }
     ensures output { output.new
-        ≡ interleave parameters (λ c. synthesize_blocks parameters.subbands (get_or histories c no_synthesis)
-        (blocks_in parameters.blocks parameters.subbands (get_or (left.now ∷ right.now ∷ []) c [])))
-        ++ drop (frame_samples parameters) output.old }
+        ≡ interleave accepted.set (λ c. synthesize_blocks accepted.set.subbands (get_or histories c no_synthesis)
+        (blocks_in accepted.set.blocks accepted.set.subbands (get_or (left.now ∷ right.now ∷ []) c [])))
+        ++ drop (frame_samples accepted.set) output.old }
 {
-    let blocks = parameters.blocks as usize;
-    let subbands = parameters.subbands as usize;
-    let channels = parameters.channels() as usize;
+    let set = accepted.set;
+    let blocks = set.blocks as usize;
+    let subbands = set.subbands as usize;
+    let channels = set.channels() as usize;
     let one = PcmChannel {
         index: 0,
         count: channels,

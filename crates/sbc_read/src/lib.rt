@@ -1,11 +1,10 @@
 // A frame's bytes to the subband samples of its channels, in an array of 128 for each channel, eight places a block.
 #![tactic(auto)]
 
-ghost use Rattle.std.specs.Prelude.{◌≡◌, true, ◌++◌, ℕ, ◌+◌, ◌-◌, ◌*◌, ◌/◌, ◌^◌, ◌≤◌, ◌<◌, length, take, drop, replicate, nat_abs, ◌+ℤ◌, ◌-ℤ◌};
+ghost use Rattle.std.specs.Prelude.{◌≡◌, ◌++◌, ℕ, ◌+◌, ◌-◌, ◌*◌, ◌/◌, ◌^◌, ◌≤◌, ◌<◌, length, take, drop, replicate, nat_abs, ◌+ℤ◌, ◌-ℤ◌};
 ghost use Rattle.laws.specs.Bits.{number_of, bits_of_bytes};
 ghost use Rattle.laws.specs.Lists.{total};
 ghost use Rattle.bits.specs.Fields.{number_at};
-ghost use Rattle.sbc_parameters.specs.Parameters.{accepted};
 ghost use Rattle.sbc_parameters.specs.Sizes.{frame_length};
 ghost use Rattle.sbc_frame.specs.Layout.{unpack};
 ghost use Rattle.sbc_frame.specs.Arrays.{with_subband, sample_in, samples_array, entry, Small, with_flagged};
@@ -13,7 +12,7 @@ ghost use Rattle.sbc_read.specs.Reading.{row_at, flag_row, left_factors, right_f
 
 use sbc_allocation::allocate;
 use sbc_frame::{Factors, Quantization};
-use sbc_parameters::SbcParameters;
+use sbc_parameters::AcceptedSet;
 use sbc_quantizer::Dequantizer;
 
 // The subband samples of both channels, with zeros behind a block's samples and behind the blocks; the second's are 0 where a frame has one.
@@ -159,15 +158,15 @@ fn join(left: &mut [i32; 128], right: &mut [i32; 128], flags: &[u8; 8], blocks: 
 }
 
 // The join flags and scale factors of a frame, whose bytes have zeros behind them.
-fn read_side(parameters: SbcParameters, bytes: &[u8; 528]) -> Side
-    requires { accepted parameters ≡ true }
-    ensures flags { result.flags ≡ flag_row parameters bytes.now }
-    ensures left { result.factors.left ≡ left_factors parameters bytes.now }
-    ensures right { result.factors.right ≡ right_factors parameters bytes.now }
+fn read_side(accepted: AcceptedSet, bytes: &[u8; 528]) -> Side
+    ensures flags { result.flags ≡ flag_row accepted.set bytes.now }
+    ensures left { result.factors.left ≡ left_factors accepted.set bytes.now }
+    ensures right { result.factors.right ≡ right_factors accepted.set bytes.now }
 {
-    let joins = parameters.join_count();
-    let subbands = parameters.subbands as usize;
-    let others = subbands * (parameters.channels() as usize - 1);
+    let set = accepted.set;
+    let joins = set.join_count();
+    let subbands = set.subbands as usize;
+    let others = subbands * (set.channels() as usize - 1);
     Side {
         flags: read_row(bytes, 32, 1, joins),
         factors: Factors {
@@ -178,23 +177,24 @@ fn read_side(parameters: SbcParameters, bytes: &[u8; 528]) -> Side
 }
 
 // The samples of a frame's channels. Where a frame has one channel, the second has no scale factors, and so no bits.
-pub fn read_frame(parameters: SbcParameters, frame: &[u8]) -> Samples
-    requires { (accepted parameters ≡ true) × (length frame.now ≡ frame_length parameters) }
-    ensures left { result.left ≡ channel_array parameters (unpack parameters frame.now) 0 }
-    ensures right { result.right ≡ channel_array parameters (unpack parameters frame.now) 1 }
-    ensures bounds { (Small parameters.blocks (2 ^ 28) result.left) × (Small parameters.blocks (2 ^ 28) result.right) }
+pub fn read_frame(accepted: AcceptedSet, frame: &[u8]) -> Samples
+    requires { length frame.now ≡ frame_length accepted.set }
+    ensures left { result.left ≡ channel_array accepted.set (unpack accepted.set frame.now) 0 }
+    ensures right { result.right ≡ channel_array accepted.set (unpack accepted.set frame.now) 1 }
+    ensures bounds { (Small accepted.set.blocks (2 ^ 28) result.left) × (Small accepted.set.blocks (2 ^ 28) result.right) }
 {
+    let set = accepted.set;
     let bytes = padded(frame);
-    let side = read_side(parameters, &bytes);
+    let side = read_side(accepted, &bytes);
     let factors = side.factors;
     let left_factors = factors.left;
     let right_factors = factors.right;
-    let widths = allocate(parameters, [left_factors, right_factors]);
+    let widths = allocate(set, [left_factors, right_factors]);
     let left_widths = widths[0];
-    let first = 32 + parameters.side_bits();
+    let first = 32 + set.side_bits();
     let second = first + row_total(&left_widths);
-    let block_bits = parameters.block_bits();
-    let blocks = parameters.blocks as usize;
+    let block_bits = set.block_bits();
+    let blocks = set.blocks as usize;
     let left_values = Values {
         quantization: Quantization {
             widths: left_widths,

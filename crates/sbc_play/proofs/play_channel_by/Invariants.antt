@@ -1,12 +1,9 @@
 -- `sbc_play::play_channel_by` meets its contract. The loop's invariant: the ring is that of the history after the blocks before `block`,
 -- and their samples stand in the channel's places.
 -- Assumes nothing.
-use Prim.Native.Nat.{ℕ, ◌*◌, ◌-◌, ◌≤◌}
+use Prim.Native.Nat.{◌*◌, ◌-◌, ◌≤◌}
 use mathlib.Core.Path.{◌≡◌}
-use mathlib.Core.List.{List}
 use lib.ListN.{length}
-use lib.IntN.{ℤ}
-use Rattle.sbc_filterbank.specs.declared.synthesis.Synthesis.{Synthesis}
 use Rattle.sbc_frame.specs.Channels.{synthesis_after}
 use Rattle.sbc_play.specs.Playing.{blocks_in, placed}
 use Rattle.sbc_play.proofs.Played.{pcm_of}

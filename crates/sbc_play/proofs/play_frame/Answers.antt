@@ -19,33 +19,33 @@ none = record { values = []; newest = 0 }
 
 pub play_channel-first-requires : goal.play_channel-first-requires
 play_channel-first-requires c =
-    let q = asked c.args.parameters 0 _ _ c.requires.0 c.channels-channels.ensures (omega (arith, channels-range c.args.parameters))
-    c.requires.3 in (q.0, q.1, q.4, c.requires.1)
+    let q = asked c.args.accepted.set 0 _ _ c.args.accepted.is_accepted c.channels-channels.ensures (omega (arith, channels-range c.args.accepted.set))
+    c.requires.2 in (q.0, q.1, q.4, c.requires.0)
 
 pub returns-then-channels-eq1 : goal.returns-then-channels-eq1
 returns-then-channels-eq1 c =
     let two : length c.args.histories ≡ 2 = search rules in
     let played =
-    one-played c.args.parameters c.args.histories c.args.left.now c.args.right.now two c.channels-channels.result none
-    c.args.output.now _ _ c.channels-channels.ensures c.requires.3
+    one-played c.args.accepted.set c.args.histories c.args.left.now c.args.right.now two c.channels-channels.result none
+    c.args.output.now _ _ c.channels-channels.ensures c.requires.2
     (c.play_channel-first.ensures.history, c.play_channel-first.ensures.output) c.if-channels-eq1.true in
     record { histories = played.0; output = played.1 }
 
 pub play_channel-second-requires : goal.play_channel-second-requires
 play_channel-second-requires c =
-    let room : frame_samples c.args.parameters ≤ length c.play_channel-first.new.output =
-    omega (arith, c.requires.3, c.play_channel-first.auto.output) in
-    let q = asked c.args.parameters 1 _ _ c.requires.0 c.channels-channels.ensures
-    (omega (arith, c.if-channels-eq1.false, channels-range c.args.parameters, c.channels-channels.ensures)) room in
-    (q.0, q.1, q.4, c.requires.2)
+    let room : frame_samples c.args.accepted.set ≤ length c.play_channel-first.new.output =
+    omega (arith, c.requires.2, c.play_channel-first.auto.output) in
+    let q = asked c.args.accepted.set 1 _ _ c.args.accepted.is_accepted c.channels-channels.ensures
+    (omega (arith, c.if-channels-eq1.false, channels-range c.args.accepted.set, c.channels-channels.ensures)) room in
+    (q.0, q.1, q.4, c.requires.1)
 
 pub returns : goal.returns
 returns c =
     let two : length c.args.histories ≡ 2 = search rules in
-    let both : c.channels-channels.result ≡ 2 = omega (arith, channels-range c.args.parameters, c.channels-channels.ensures) in
+    let both : c.channels-channels.result ≡ 2 = omega (arith, channels-range c.args.accepted.set, c.channels-channels.ensures) in
     let played =
-    two-played c.args.parameters c.args.histories c.args.left.now c.args.right.now two c.channels-channels.result none
-    c.args.output.now _ _ c.channels-channels.ensures c.requires.3
+    two-played c.args.accepted.set c.args.histories c.args.left.now c.args.right.now two c.channels-channels.result none
+    c.args.output.now _ _ c.channels-channels.ensures c.requires.2
     (c.play_channel-first.ensures.history, c.play_channel-first.ensures.output) both _ _
     (c.play_channel-second.ensures.history, c.play_channel-second.ensures.output) in
     record { histories = played.0; output = played.1 }

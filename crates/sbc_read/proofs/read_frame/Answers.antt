@@ -7,14 +7,14 @@ use Rattle.sbc_read.proofs.Received.{Got, widths_16, left-asks, right-asks, left
 use Rattle.sbc_read.proofs.read_frame.Goals as goal
 
 pub padded-bytes-requires : goal.padded-bytes-requires
-padded-bytes-requires c = omega (arith, c.requires.1, (frame-length-range _ c.requires.0).1)
+padded-bytes-requires c = omega (arith, c.requires, (frame-length-range _ c.args.accepted.is_accepted).1)
 
 pub overflow_add-first : goal.overflow_add-first
-overflow_add-first c = omega (arith, c.side_bits-first.ensures, frame-room _ c.requires.0, (frame-length-range _ c.requires.0).1)
+overflow_add-first c = omega (arith, c.side_bits-first.ensures, frame-room _ c.args.accepted.is_accepted, (frame-length-range _ c.args.accepted.is_accepted).1)
 
 pub overflow_add-second : goal.overflow_add-second
 overflow_add-second c =
-    omega (arith, c.side_bits-first.ensures, c.row_total.ensures.1, frame-room _ c.requires.0, (frame-length-range _ c.requires.0).1)
+    omega (arith, c.side_bits-first.ensures, c.row_total.ensures.1, frame-room _ c.args.accepted.is_accepted, (frame-length-range _ c.args.accepted.is_accepted).1)
 
 pub invariant_of-left_values : goal.invariant_of-left_values
 invariant_of-left_values c =
@@ -29,11 +29,11 @@ invariant_of-right_values c =
 pub invariant_of-left_values-2 : goal.invariant_of-left_values-2
 invariant_of-left_values-2 c =
     let side = c.read_side-side.result.factors in
-    let got : Got c.args.parameters c.args.frame.now c.padded-bytes.result side.left side.right c.allocate-widths.result
+    let got : Got c.args.accepted.set c.args.frame.now c.padded-bytes.result side.left side.right c.allocate-widths.result
     c.side_bits-first.result c.row_total.result c.block_bits-block_bits.result =
     record {
-      good = c.requires.0;
-      long = c.requires.1;
+      good = c.args.accepted.is_accepted;
+      long = c.requires;
       bytes-are = c.padded-bytes.ensures;
       left_is = c.read_side-side.ensures.left;
       right_is = c.read_side-side.ensures.right;
@@ -49,11 +49,11 @@ invariant_of-left_values-2 c =
 pub invariant_of-right_values-2 : goal.invariant_of-right_values-2
 invariant_of-right_values-2 c =
     let side = c.read_side-side.result.factors in
-    let got : Got c.args.parameters c.args.frame.now c.padded-bytes.result side.left side.right c.allocate-widths.result
+    let got : Got c.args.accepted.set c.args.frame.now c.padded-bytes.result side.left side.right c.allocate-widths.result
     c.side_bits-first.result c.row_total.result c.block_bits-block_bits.result =
     record {
-      good = c.requires.0;
-      long = c.requires.1;
+      good = c.args.accepted.is_accepted;
+      long = c.requires;
       bytes-are = c.padded-bytes.ensures;
       left_is = c.read_side-side.ensures.left;
       right_is = c.read_side-side.ensures.right;
@@ -69,11 +69,11 @@ invariant_of-right_values-2 c =
 pub join-requires : goal.join-requires
 join-requires c =
     let side = c.read_side-side.result.factors in
-    let got : Got c.args.parameters c.args.frame.now c.padded-bytes.result side.left side.right c.allocate-widths.result
+    let got : Got c.args.accepted.set c.args.frame.now c.padded-bytes.result side.left side.right c.allocate-widths.result
     c.side_bits-first.result c.row_total.result c.block_bits-block_bits.result =
     record {
-      good = c.requires.0;
-      long = c.requires.1;
+      good = c.args.accepted.is_accepted;
+      long = c.requires;
       bytes-are = c.padded-bytes.ensures;
       left_is = c.read_side-side.ensures.left;
       right_is = c.read_side-side.ensures.right;
@@ -91,11 +91,11 @@ join-requires c =
 pub returns : goal.returns
 returns c =
     let side = c.read_side-side.result.factors in
-    let got : Got c.args.parameters c.args.frame.now c.padded-bytes.result side.left side.right c.allocate-widths.result
+    let got : Got c.args.accepted.set c.args.frame.now c.padded-bytes.result side.left side.right c.allocate-widths.result
     c.side_bits-first.result c.row_total.result c.block_bits-block_bits.result =
     record {
-      good = c.requires.0;
-      long = c.requires.1;
+      good = c.args.accepted.is_accepted;
+      long = c.requires;
       bytes-are = c.padded-bytes.ensures;
       left_is = c.read_side-side.ensures.left;
       right_is = c.read_side-side.ensures.right;
