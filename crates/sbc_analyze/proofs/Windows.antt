@@ -2,7 +2,6 @@
 -- Assumes nothing.
 use Prim.Native.Nat.{ℕ, ◌+◌, ◌*◌, ◌^◌, ◌≤◌, ◌<◌}
 use mathlib.Core.Bool.{Bool}
-use mathlib.Core.Path.{◌≡◌}
 use mathlib.Core.List.{List}
 use native.Mathlib.Omega.{arith}
 use lib.Dec.{lit≤, leb, leb→le}
@@ -35,17 +34,10 @@ column-bound k b =
 abbrev pub WindowSummed : ℕ → List ℤ → ℕ → ℕ → ℤ → Type 0
 WindowSummed S X k = Summed (2 ^ 15) (λ j. prototype_at S (k + 2 * S * j)) (λ j. get_or X (k + 2 * S * j) (pos 0))
 
--- ---- Y's index: k, k + 2 S, .. below 10 S, which are five
-module _ {S : ℕ} (k j index : ℕ) (b : Bands S) (e : index ≡ k + 2 * S * j) where
-  pub window_more : index < 10 * S → j < 5
-  window_more = for-bands (λ s. index ≡ k + 2 * s * j → index < 10 * s → j < 5) b (λ q h. omega arith) (λ q h. omega arith) e
-
-  pub window-done : k < 2 * S → 10 * S ≤ index → 5 ≤ j
-  window-done = for-bands (λ s. index ≡ k + 2 * s * j → k < 2 * s → 10 * s ≤ index → 5 ≤ j) b (λ q l h. omega arith) (λ q l h. omega arith)
-      e
-
-  pub window-step : index + 2 * S ≡ k + 2 * S * (j + 1)
-  window-step = for-bands (λ s. index ≡ k + 2 * s * j → index + 2 * s ≡ k + 2 * s * (j + 1)) b (λ q. omega arith) (λ q. omega arith) e
+-- ---- the index of its term j
+pub window-below : {S : ℕ} (k j : ℕ) → Bands S → k < 2 * S → j < 5 → k + 2 * S * j < 10 * S
+window-below k j b =
+    for-bands (λ s. k < 2 * s → j < 5 → k + 2 * s * j < 10 * s) b (λ h l. omega arith) (λ h l. omega arith)
 
 -- ---- what the sums' bounds give: Y is within 400000000
 pub window-small : (z : ℤ) → nat_abs z ≤ 400000000 * 2 ^ 15 → nat_abs (floor_div z (2 ^ 15)) ≤ 400000000

@@ -13,15 +13,11 @@ ghost use Rattle.sbc_analyze.specs.Fold.{moved, entered, fold_column, column_ter
 use crate::matrices::AnalysisBank;
 use sbc_tables::{Bank, Eight, Four};
 
-// The first 9 S places of the history moved up by S, from the last one down, so that nothing is overwritten before it is moved.
+// The first 9 S places of the history moved up by S.
 fn shift_history<B: Bank>(history: &mut [i16; 80])
     ensures { history.new ≡ moved B.SUBBANDS (9 * B.SUBBANDS) history.old }
 {
-    let mut k = 9 * B::SUBBANDS;
-    while 0 < k {
-        k = k - 1;
-        history[k + B::SUBBANDS] = history[k];
-    }
+    history.copy_within(0..9 * B::SUBBANDS, B::SUBBANDS);
 }
 
 // The new samples at the front, newest first.
@@ -33,20 +29,16 @@ fn enter<B: Bank>(history: &mut [i16; 80], input: &[i16; 8])
     }
 }
 
-// The sum of Y[k], before it is divided. The index is stepped and the bound depends on S: then the compiler unrolls the loop into products
-// with constants. `j` counts the terms, for the proof.
+// The sum of Y[k], before it is divided.
 fn window_sum<B: Bank>(history: &[i16; 80], k: usize) -> i64
     requires { k < 2 * B.SUBBANDS }
     ensures { (result ≡ sum_z 5 (window_term B.SUBBANDS history.now k)) × (nat_abs result ≤ 400000000 * 2 ^ 15) }
 {
     let taps = B::prototype();
     let mut sum = 0i64;
-    let mut j = 0usize;
-    let mut index = k;
-    while index < 10 * B::SUBBANDS {
+    for j in 0..5 {
+        let index = k + 2 * B::SUBBANDS * j;
         sum = laws::multiply_add(sum, taps[index], i32::from(history[index]));
-        j = j + 1;
-        index = index + 2 * B::SUBBANDS;
     }
     sum
 }

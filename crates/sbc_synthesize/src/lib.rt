@@ -33,7 +33,6 @@ fn place<B: Bank>(newest: usize, b: usize) -> usize
 }
 
 // The sums of the outputs over the b newest vectors, with the next vector's terms added.
-#[inline(always)]
 fn add_vector<B: Bank>(sums: &[i64; 8], history: &Synthesis, b: usize) -> [i64; 8]
     requires { (history.now.newest < 10) × (b < 10)
         × (OutputSums B.SUBBANDS (ring B.SUBBANDS history.now.values history.now.newest) b sums.now) }
@@ -49,23 +48,15 @@ fn add_vector<B: Bank>(sums: &[i64; 8], history: &Synthesis, b: usize) -> [i64; 
     more
 }
 
-// The sums of the outputs, before they are rounded. Vector by vector, and with no loop: then the compiler keeps the sums in registers and
-// has one place at a time.
+// The sums of the outputs, before they are rounded.
 fn sums<B: Bank>(history: &Synthesis) -> [i64; 8]
     requires { history.now.newest < 10 }
     ensures { OutputSums B.SUBBANDS (ring B.SUBBANDS history.now.values history.now.newest) 10 result }
 {
-    let sums = [0i64; 8];
-    let sums = add_vector::<B>(&sums, history, 0);
-    let sums = add_vector::<B>(&sums, history, 1);
-    let sums = add_vector::<B>(&sums, history, 2);
-    let sums = add_vector::<B>(&sums, history, 3);
-    let sums = add_vector::<B>(&sums, history, 4);
-    let sums = add_vector::<B>(&sums, history, 5);
-    let sums = add_vector::<B>(&sums, history, 6);
-    let sums = add_vector::<B>(&sums, history, 7);
-    let sums = add_vector::<B>(&sums, history, 8);
-    let sums = add_vector::<B>(&sums, history, 9);
+    let mut sums = [0i64; 8];
+    for b in 0..10 {
+        sums = add_vector::<B>(&sums, history, b);
+    }
     sums
 }
 

@@ -1,8 +1,8 @@
--- `sbc_synthesize::sums` meets its contract: each call hands the next what it requires.
+-- `sbc_synthesize::sums` meets its contract. The loop's invariant: the sums are those over the vectors before b.
 -- Assumes nothing.
-use lib.Dec.{lit<}
+use native.Mathlib.Omega.{arith}
 use Rattle.sbc_synthesize.proofs.Blocks.{sums_none}
 use Rattle.sbc_synthesize.proofs.sums.Goals as goal
 
-pub add_vector-sums-requires : goal.add_vector-sums-requires
-add_vector-sums-requires g c = (c.requires, lit< tt, sums_none g.B.Bank.SUBBANDS _)
+pub loop-b-init : goal.loop-b-init
+loop-b-init g c = (omega arith, sums_none g.B.Bank.SUBBANDS _)

@@ -2,7 +2,7 @@
 -- terms before it, within its bound.
 -- Assumes nothing.
 use Prim.Native.Nat.{ℕ, ◌+◌, ◌*◌, ◌^◌, ◌≤◌, ◌<◌}
-use mathlib.Core.Path.{◌≡◌, ◌∙◌, sym, ap, ap₂, subst}
+use mathlib.Core.Path.{◌≡◌, refl, ◌∙◌, sym, ap, ap₂, subst}
 use mathlib.Core.List.{List}
 use native.Mathlib.Omega.{arith}
 use lib.Dec.{lit<}
@@ -16,7 +16,7 @@ use Rattle.sbc_tables.specs.Tables.{prototype}
 use Rattle.sbc_filterbank.specs.Subbands.{prototype_at}
 use Rattle.sbc_filterbank.proofs.Bands.{prototype-length}
 use Rattle.sbc_filterbank.proofs.Bounds.{summed-none, summed-next, summed-fits, summed-all, read_small}
-use Rattle.sbc_analyze.proofs.Windows.{column-bound, WindowSummed, window_more, window-done, window-step}
+use Rattle.sbc_analyze.proofs.Windows.{column-bound, WindowSummed, window-below}
 use Rattle.sbc_analyze.proofs.analysis.window_sum.Goals as goal
 
 -- the sum with one term more
@@ -32,43 +32,40 @@ next S k j index X taps s x p i w tap sample fits e =
     (read ∙ ap (λ (n : ℕ). get_or X n (pos 0)) i)
     (subst (λ (z : ℤ). nat_abs z ≤ 2 ^ 15) (sym read) (read_small w16 (get_or X index (pos 0)) sample))
 
-pub loop-index-init : goal.loop-index-init
-loop-index-init g c = (omega arith, omega arith, summed-none _ _ _)
+pub loop-j-init : goal.loop-j-init
+loop-j-init g c = (omega arith, summed-none _ _ _)
 
 pub bounds-taps-index : goal.bounds-taps-index
-bounds-taps-index g c = omega (arith, ap length c.prototype-taps.ensures, prototype-length g.met.B.Bank.bands)
+bounds-taps-index g c =
+    let below = window-below c.args.k c.loop-j.j g.met.B.Bank.bands c.requires (omega arith) in
+    rw (c.SUBBANDS.ensures) (omega (arith, below, ap length c.prototype-taps.ensures, prototype-length g.met.B.Bank.bands))
 
 pub multiply_add-sum-requires : goal.multiply_add-sum-requires
 multiply_add-sum-requires g c =
-    let more : c.loop-index.j < 5 = window_more _ _ _ g.met.B.Bank.bands c.loop-index.invariant.1 (rw (c.SUBBANDS.ensures) at c.loop-index-test.true) in
-    let tap : mag (get_or c.prototype-taps.result.now c.loop-index.index (pos 0)) < 2 ^ 31 = omega arith in
-    let sample : mag (get_or c.args.history.now c.loop-index.index (pos 0)) < 2 ^ 15 = omega arith in
-    let w = next g.B.Bank.SUBBANDS c.args.k c.loop-index.j c.loop-index.index c.args.history.now c.prototype-taps.result.now
-    (to_z w64 c.loop-index.sum-bits)
-    c.from.result c.prototype-taps.ensures c.loop-index.invariant.1 c.loop-index.invariant.2 tap sample c.from.type_inv c.from.ensures in
-    summed-fits w 5 400000000 (column-bound _ g.met.B.Bank.bands c.requires) (omega (arith, more)) (lit< tt)
+    let S = g.B.Bank.SUBBANDS in
+    let taps = c.prototype-taps.result.now in
+    let X = c.args.history.now in
+    let place = λ (s : ℕ). c.args.k + 2 * s * c.loop-j.j in
+    let read : mag (get_or taps (place c.SUBBANDS.result) (pos 0)) < 2 ^ 31 = omega arith in
+    let held : mag (get_or X (place c.SUBBANDS.result) (pos 0)) < 2 ^ 15 = omega arith in
+    let w = next S c.args.k c.loop-j.j (place S) X taps (to_z w64 c.loop-j.sum-bits) c.from.result c.prototype-taps.ensures refl
+    c.loop-j.invariant.1 (rw (c.SUBBANDS.ensures) at read) (rw (c.SUBBANDS.ensures) at held) c.from.type_inv (rw (c.SUBBANDS.ensures) at c.from.ensures) in
+    rw (c.SUBBANDS.ensures) (summed-fits w 5 400000000 (column-bound _ g.met.B.Bank.bands c.requires) (omega arith) (lit< tt))
 
-pub loop-index-smaller : goal.loop-index-smaller
-loop-index-smaller g c =
-    let more : c.loop-index.j < 5 = window_more _ _ _ g.met.B.Bank.bands c.loop-index.invariant.1 (rw (c.SUBBANDS.ensures) at c.loop-index-test.true) in
-    omega (arith, more)
-
-pub loop-index-preserved : goal.loop-index-preserved
-loop-index-preserved g c =
-    let more : c.loop-index.j < 5 = window_more _ _ _ g.met.B.Bank.bands c.loop-index.invariant.1 (rw (c.SUBBANDS.ensures) at c.loop-index-test.true) in
-    let tap : mag (get_or c.prototype-taps.result.now c.loop-index.index (pos 0)) < 2 ^ 31 = omega arith in
-    let sample : mag (get_or c.args.history.now c.loop-index.index (pos 0)) < 2 ^ 15 = omega arith in
-    let w = next g.B.Bank.SUBBANDS c.args.k c.loop-index.j c.loop-index.index c.args.history.now c.prototype-taps.result.now
-    (to_z w64 c.loop-index.sum-bits)
-    c.from.result c.prototype-taps.ensures c.loop-index.invariant.1 c.loop-index.invariant.2 tap sample c.from.type_inv c.from.ensures in (
-      omega (arith, more),
-      rw (c.SUBBANDS-in-loop-index.ensures) (window-step _ _ _ g.met.B.Bank.bands c.loop-index.invariant.1),
-      subst (WindowSummed g.B.Bank.SUBBANDS c.args.history.now c.args.k (c.loop-index.j + 1))
-          (sym (read_back w64 c.multiply_add-sum.type_inv ∙ c.multiply_add-sum.ensures)) w,
+pub loop-j-preserved : goal.loop-j-preserved
+loop-j-preserved g c =
+    let S = g.B.Bank.SUBBANDS in
+    let taps = c.prototype-taps.result.now in
+    let X = c.args.history.now in
+    let place = λ (s : ℕ). c.args.k + 2 * s * c.loop-j.j in
+    let read : mag (get_or taps (place c.SUBBANDS.result) (pos 0)) < 2 ^ 31 = omega arith in
+    let held : mag (get_or X (place c.SUBBANDS.result) (pos 0)) < 2 ^ 15 = omega arith in
+    let w = next S c.args.k c.loop-j.j (place S) X taps (to_z w64 c.loop-j.sum-bits) c.from.result c.prototype-taps.ensures refl
+    c.loop-j.invariant.1 (rw (c.SUBBANDS.ensures) at read) (rw (c.SUBBANDS.ensures) at held) c.from.type_inv (rw (c.SUBBANDS.ensures) at c.from.ensures) in (
+      omega arith,
+      subst (WindowSummed S X c.args.k (c.loop-j.j + 1))
+          (sym (read_back w64 c.multiply_add-sum.type_inv ∙ (rw (c.SUBBANDS.ensures) at c.multiply_add-sum.ensures))) w,
     )
 
 pub returns : goal.returns
-returns g c =
-    let turn = c.loop-index in
-    let done = window-done _ _ _ g.met.B.Bank.bands turn.invariant.1 c.requires (rw (c.SUBBANDS.ensures) at c.loop-index-test.false) in
-    summed-all turn.invariant.2 5 400000000 (column-bound _ g.met.B.Bank.bands c.requires) (omega arith)
+returns g c = summed-all c.loop-j.invariant.1 5 400000000 (column-bound _ g.met.B.Bank.bands c.requires) (omega arith)
