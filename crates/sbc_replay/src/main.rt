@@ -15,532 +15,272 @@
 // samples. A write that fails ends it with that error, and a read that fails counts as the end of the input.
 #![tactic(auto)]
 
-mod numbers;
+mod end;
 
-ghost use Rattle.std.specs.Prelude.{◌≡◌, true, ◌*◌, ◌≤◌, length};
+ghost use Rattle.std.specs.Prelude.{◌≡◌, ◌*◌, ◌≤◌, IfOk, length};
 
-use codec::Coded;
-use numbers::{long_bytes, long_number, number, number_bytes};
+use codec::{Error, Progress};
+use end::End;
 use sbc_allocation::allocate;
 use sbc_decoder::SbcDecoder;
 use sbc_encoder::SbcEncoder;
 use sbc_modes::{SbcAllocation, SbcChannelMode};
-use sbc_parameters::{Parsed, SbcParameters, Validated};
-use sbc_seek::{LastParameters, SeekOutcome};
+use sbc_parameters::SbcParameters;
+use std::alloc::Global;
 use std::io;
 use std::io::{Read, Write};
 
-const NO_SET: [u8; 9] = [0; 9];
+// The most bytes or samples of a buffer.
+const LONGEST: usize = 65_536;
 
-// The two codecs, and whether the program goes on.
-#[derive(Clone, Copy)]
-struct Replay {
+// The two codecs, between the requests and the answers.
+#[derive(Drop)]
+struct Replay<R, W> {
+    input: R,
+    output: W,
     decoder: SbcDecoder,
     encoder: SbcEncoder,
-    going: bool,
-}
-
-// The lengths of an encode or a decode request, and whether both came.
-#[derive(Clone, Copy)]
-struct Sizes {
-    input: usize,
-    output: usize,
-    came: bool,
-}
-
-// Fills the buffer from the input, and answers whether there was enough.
-fn fill<R: Read>(input: &mut R, buffer: &mut [u8]) -> bool {
-    input.read_exact(buffer).is_ok()
-}
-
-fn fill_both<R: Read>(input: &mut R, first: &mut [u8], second: &mut [u8]) -> bool {
-    if !fill(input, first) {
-        return false;
-    }
-    fill(input, second)
-}
-
-fn answer<W: Write>(output: &mut W, bytes: &[u8]) -> io::Result<()> {
-    output.write_all(bytes)
-}
-
-fn answer_set<W: Write>(output: &mut W, error: u8, set: [u8; 9]) -> io::Result<()> {
-    answer(output, &[error])?;
-    answer(output, &set)
-}
-
-fn answer_progress<W: Write>(
-    output: &mut W,
-    error: u8,
-    consumed: u64,
-    produced: u64,
-) -> io::Result<()> {
-    answer(output, &[error])?;
-    answer(output, &long_bytes(consumed))?;
-    answer(output, &long_bytes(produced))
-}
-
-fn answer_coded<W: Write>(output: &mut W, coded: Coded) -> io::Result<()> {
-    match coded {
-        Coded::Done(progress) => {
-            answer_progress(
-                output,
-                0,
-                progress.consumed as u64,
-                progress.produced as u64,
-            )
-        }
-        Coded::Refused(error) => answer_progress(output, error.number(), 0, 0),
-    }
-}
-
-fn answer_encoded<W: Write>(output: &mut W, coded: Coded, bytes: &[u8]) -> io::Result<()> {
-    answer_coded(output, coded)?;
-    answer(output, bytes)
-}
-
-fn answer_decoded<W: Write>(
-    output: &mut W,
-    coded: Coded,
-    samples: &[i16],
-    raw: &mut [u8],
-) -> io::Result<()>
-    requires { length raw.old ≡ 2 * length samples.now }
-{
-    pcm::write(samples, raw);
-    answer_encoded(output, coded, raw)
-}
-
-fn answer_seek<W: Write>(output: &mut W, error: u8, offset: u64, skip: u32) -> io::Result<()> {
-    answer(output, &[error])?;
-    answer(output, &long_bytes(offset))?;
-    answer(output, &number_bytes(skip))
-}
-
-fn answer_sought<W: Write>(output: &mut W, outcome: SeekOutcome) -> io::Result<()> {
-    match outcome {
-        SeekOutcome::At(request) => {
-            answer_seek(output, 0, request.byte_offset, request.skip_frames)
-        }
-        SeekOutcome::Refused(error) => answer_seek(output, error.number(), 0, 0),
-    }
+    alloc: Global,
 }
 
 // The set of nine bytes; a mode or an allocation past the last counts as the last.
 fn set_of(bytes: [u8; 9]) -> SbcParameters {
+    let [a, b, c, d, mode, allocation, blocks, subbands, bitpool] = bytes;
     SbcParameters {
-        sample_rate: number(bytes[0], bytes[1], bytes[2], bytes[3]),
-        channel_mode: SbcChannelMode::from_number(bytes[4]),
-        allocation: SbcAllocation::from_number(bytes[5]),
-        blocks: bytes[6],
-        subbands: bytes[7],
-        bitpool: bytes[8],
+        sample_rate: u32::from_le_bytes([a, b, c, d]),
+        channel_mode: SbcChannelMode::from_number(mode),
+        allocation: SbcAllocation::from_number(allocation),
+        blocks,
+        subbands,
+        bitpool,
     }
 }
 
 fn bytes_of(set: SbcParameters) -> [u8; 9] {
-    let rate = number_bytes(set.sample_rate);
-    let mode = set.channel_mode;
-    let allocation = set.allocation;
+    let [a, b, c, d] = set.sample_rate.to_le_bytes();
+    let mode = u8::from(set.channel_mode);
+    let allocation = u8::from(set.allocation);
     [
-        rate[0],
-        rate[1],
-        rate[2],
-        rate[3],
-        mode.number(),
-        allocation.number(),
+        a,
+        b,
+        c,
+        d,
+        mode,
+        allocation,
         set.blocks,
         set.subbands,
         set.bitpool,
     ]
 }
 
-// The error byte of a set.
-fn refusal(set: SbcParameters) -> u8 {
-    match set.validate() {
-        Validated::Accepted => 0,
-        Validated::Refused(error) => error.number(),
+fn error_byte<T: Copy>(answer: Result<T, Error>) -> u8 {
+    match answer {
+        Ok(_) => 0,
+        Err(error) => u8::from(error),
     }
 }
 
-fn answer_row<W: Write>(output: &mut W, row: [u8; 8]) -> io::Result<()> {
-    answer(output, &row)
-}
-
-fn answer_rows<W: Write>(output: &mut W, error: u8, rows: [[u8; 8]; 2]) -> io::Result<()> {
-    let left = rows[0];
-    let right = rows[1];
-    answer(output, &[error])?;
-    answer_row(output, left)?;
-    answer_row(output, right)
-}
-
-// The bits of the two rows of factors.
-fn answer_allocated<W: Write>(
-    output: &mut W,
-    set: SbcParameters,
-    left: [u8; 8],
-    right: [u8; 8],
-) -> io::Result<()> {
-    let error = refusal(set);
-    if error == 0 {
-        return answer_rows(output, 0, allocate(set, [left, right]));
-    }
-    answer_rows(output, error, [[0u8; 8], [0u8; 8]])
-}
-
-fn answer_parsed<W: Write>(output: &mut W, parsed: Parsed) -> io::Result<()> {
-    match parsed {
-        Parsed::Parameters(set) => answer_set(output, 0, bytes_of(set)),
-        Parsed::Refused(error) => answer_set(output, error.number(), NO_SET),
-    }
-}
-
-fn answer_last<W: Write>(output: &mut W, last: LastParameters) -> io::Result<()> {
-    answer(output, &[0])?;
-    match last {
-        LastParameters::Some(set) => answer_set(output, 1, bytes_of(set)),
-        LastParameters::None => answer_set(output, 0, NO_SET),
-    }
-}
-
-// The call itself. The raw buffer holds the samples as they come and go.
-fn run_encoder<W: Write>(
-    encoder: SbcEncoder,
-    output: &mut W,
-    raw: &[u8],
-    bytes: &mut [u8],
-    samples: &mut [i16],
-) -> io::Result<SbcEncoder>
-    requires { length raw.now ≡ 2 * length samples.old }
-{
-    pcm::read(raw, samples);
-    let result = encoder.encoded(samples, bytes);
-    let coded = result.answer;
-    answer_encoded(output, coded, bytes)?;
-    Ok(result.encoder)
-}
-
-fn run_decoder<W: Write>(
-    decoder: SbcDecoder,
-    output: &mut W,
-    raw: &mut [u8],
-    bytes: &[u8],
-    samples: &mut [i16],
-) -> io::Result<SbcDecoder>
-    requires { length raw.old ≡ 2 * length samples.old }
-{
-    pcm::read(raw, samples);
-    let result = decoder.decoded(bytes, samples);
-    let coded = result.answer;
-    answer_decoded(output, coded, samples, raw)?;
-    Ok(result.decoder)
-}
-
-impl Sizes {
-    fn read<R: Read>(input: &mut R) -> Sizes {
-        let mut l = [0u8; 8];
-        let came = fill(input, &mut l);
-        Sizes {
-            input: number(l[0], l[1], l[2], l[3]) as usize,
-            output: number(l[4], l[5], l[6], l[7]) as usize,
-            came,
-        }
+impl<R: Read + Drop, W: Write + Drop> Replay<R, W> {
+    fn fill(&mut self, buffer: &mut [u8]) -> Result<(), End> {
+        self.input.read_exact(buffer).map_err(|_| End::Input)
     }
 
-    // Whether they came, and the buffers hold so many samples, at two raw bytes each, and so many bytes.
-    fn fit(
-        self,
-        samples: usize,
-        bytes: usize,
-        raw_room: usize,
-        samples_room: usize,
-        bytes_room: usize,
-    ) -> bool
-        ensures { result ≡ true → (2 * samples ≤ raw_room) × (samples ≤ samples_room) × (bytes ≤ bytes_room) }
+    // The next bytes of the input.
+    fn next<const N: usize>(&mut self) -> Result<[u8; N], End> {
+        let mut bytes = [0u8; N];
+        self.fill(&mut bytes)?;
+        Ok(bytes)
+    }
+
+    // The next number of the input, where a buffer may be so long.
+    fn length(&mut self) -> Result<usize, End>
+        ensures { IfOk result (λ n. n ≤ LONGEST) }
     {
-        if !self.came {
-            return false;
+        let n = u32::from_le_bytes(self.next()?) as usize;
+        if n > LONGEST {
+            return Err(End::Input);
         }
-        if samples > raw_room / 2 {
-            return false;
-        }
-        if samples > samples_room {
-            return false;
-        }
-        bytes <= bytes_room
-    }
-}
-
-impl Replay {
-    fn new() -> Replay {
-        let created = SbcEncoder::new(SbcParameters::HIGH_QUALITY);
-        let encoder = created.encoder;
-        Replay {
-            decoder: SbcDecoder::new(),
-            encoder,
-            going: true,
-        }
+        Ok(n)
     }
 
-    fn stopped(mut self) -> Replay {
-        self.going = false;
-        self
+    fn answer(&mut self, bytes: &[u8]) -> Result<(), End> {
+        self.output.write_all(bytes)?;
+        Ok(())
     }
 
-    fn with_decoder(mut self, decoder: SbcDecoder) -> Replay {
-        self.decoder = decoder;
-        self
+    // What a call consumed and produced.
+    fn answer_coded(&mut self, coded: Result<Progress, Error>) -> Result<(), End> {
+        let progress = coded.unwrap_or(Progress {
+            consumed: 0,
+            produced: 0,
+        });
+        self.answer(&[error_byte(coded)])?;
+        self.answer(&progress.consumed.to_le_bytes())?;
+        self.answer(&progress.produced.to_le_bytes())
     }
 
-    fn with_encoder(mut self, encoder: SbcEncoder) -> Replay {
-        self.encoder = encoder;
-        self
+    fn parse(&mut self) -> Result<(), End> {
+        let count = usize::from(u16::from_le_bytes(self.next()?));
+        let mut bytes = vec![in self.alloc; 0u8; count]?;
+        self.fill(bytes.as_mut_slice())?;
+        let parsed = SbcParameters::parse(bytes.as_slice());
+        self.answer(&[error_byte(parsed)])?;
+        self.answer(&parsed.map_or([0; 9], bytes_of))
     }
 
-    fn parse<R: Read, W: Write>(
-        self,
-        input: &mut R,
-        output: &mut W,
-        bytes: &mut [u8],
-    ) -> io::Result<Replay> {
-        let mut length = [0u8; 2];
-        if !fill(input, &mut length) {
-            return Ok(self.stopped());
+    fn validate(&mut self) -> Result<(), End> {
+        let set = set_of(self.next()?);
+        self.answer(&[error_byte(set.validate())])
+    }
+
+    fn new_encoder(&mut self) -> Result<(), End> {
+        let created = SbcEncoder::new(set_of(self.next()?));
+        self.answer(&[error_byte(created)])?;
+        if let Ok(encoder) = created {
+            self.encoder = encoder;
         }
-        let count = number(length[0], length[1], 0, 0) as usize;
-        if count > bytes.len() {
-            return Ok(self.stopped());
-        }
-        self.parse_lent(input, output, &mut bytes[..count])
+        Ok(())
     }
 
-    fn parse_lent<R: Read, W: Write>(
-        self,
-        input: &mut R,
-        output: &mut W,
-        bytes: &mut [u8],
-    ) -> io::Result<Replay> {
-        if !fill(input, bytes) {
-            return Ok(self.stopped());
-        }
-        answer_parsed(output, SbcParameters::parse(bytes))?;
-        Ok(self)
+    fn encode(&mut self) -> Result<(), End> {
+        let count = self.length()?;
+        let room = self.length()?;
+        let mut raw = vec![in self.alloc; 0u8; 2 * count]?;
+        let mut samples = vec![in self.alloc; 0i16; count]?;
+        let mut bytes = vec![in self.alloc; 0u8; room]?;
+        self.encode_by(
+            raw.as_mut_slice(),
+            samples.as_mut_slice(),
+            bytes.as_mut_slice(),
+        )
     }
 
-    fn validate<R: Read, W: Write>(self, input: &mut R, output: &mut W) -> io::Result<Replay> {
-        let mut set = NO_SET;
-        if !fill(input, &mut set) {
-            return Ok(self.stopped());
-        }
-        answer(output, &[refusal(set_of(set))])?;
-        Ok(self)
-    }
-
-    fn new_encoder<R: Read, W: Write>(self, input: &mut R, output: &mut W) -> io::Result<Replay> {
-        let mut set = NO_SET;
-        if !fill(input, &mut set) {
-            return Ok(self.stopped());
-        }
-        let created = SbcEncoder::new(set_of(set));
-        let outcome = created.outcome;
-        match outcome {
-            Validated::Accepted => {
-                answer(output, &[0])?;
-                let encoder = created.encoder;
-                Ok(self.with_encoder(encoder))
-            }
-            Validated::Refused(error) => {
-                answer(output, &[error.number()])?;
-                Ok(self)
-            }
-        }
-    }
-
-    fn encode<R: Read, W: Write>(
-        self,
-        input: &mut R,
-        output: &mut W,
+    // Encodes by way of the buffers; the raw one is for the samples as they come.
+    fn encode_by(
+        &mut self,
         raw: &mut [u8],
-        bytes: &mut [u8],
         samples: &mut [i16],
-    ) -> io::Result<Replay> {
-        let sizes = Sizes::read(input);
-        let count = sizes.input;
-        let room = sizes.output;
-        if sizes.fit(count, room, raw.len(), samples.len(), bytes.len()) {
-            return self.encode_lent(
-                input,
-                output,
-                &mut raw[..2 * count],
-                &mut bytes[..room],
-                &mut samples[..count],
-            );
-        }
-        Ok(self.stopped())
-    }
-
-    fn encode_lent<R: Read, W: Write>(
-        self,
-        input: &mut R,
-        output: &mut W,
-        raw: &mut [u8],
         bytes: &mut [u8],
-        samples: &mut [i16],
-    ) -> io::Result<Replay>
+    ) -> Result<(), End>
         requires { length raw.old ≡ 2 * length samples.old }
     {
-        if !fill_both(input, raw, bytes) {
-            return Ok(self.stopped());
-        }
-        let encoder = run_encoder(self.encoder, output, raw, bytes, samples)?;
-        Ok(self.with_encoder(encoder))
+        self.fill(raw)?;
+        self.fill(bytes)?;
+        pcm::read(raw, samples);
+        let coded = self.encoder.encode(samples, bytes);
+        self.answer_coded(coded)?;
+        self.answer(bytes)
     }
 
-    fn decode<R: Read, W: Write>(
-        self,
-        input: &mut R,
-        output: &mut W,
-        raw: &mut [u8],
-        bytes: &mut [u8],
-        samples: &mut [i16],
-    ) -> io::Result<Replay> {
-        let sizes = Sizes::read(input);
-        let count = sizes.input;
-        let room = sizes.output;
-        if sizes.fit(room, count, raw.len(), samples.len(), bytes.len()) {
-            return self.decode_lent(
-                input,
-                output,
-                &mut raw[..2 * room],
-                &mut bytes[..count],
-                &mut samples[..room],
-            );
-        }
-        Ok(self.stopped())
+    fn decode(&mut self) -> Result<(), End> {
+        let count = self.length()?;
+        let room = self.length()?;
+        let mut bytes = vec![in self.alloc; 0u8; count]?;
+        let mut raw = vec![in self.alloc; 0u8; 2 * room]?;
+        let mut samples = vec![in self.alloc; 0i16; room]?;
+        self.decode_by(
+            bytes.as_mut_slice(),
+            raw.as_mut_slice(),
+            samples.as_mut_slice(),
+        )
     }
 
-    fn decode_lent<R: Read, W: Write>(
-        self,
-        input: &mut R,
-        output: &mut W,
-        raw: &mut [u8],
+    // Decodes by way of the buffers; the raw one is for the samples as they come and go.
+    fn decode_by(
+        &mut self,
         bytes: &mut [u8],
+        raw: &mut [u8],
         samples: &mut [i16],
-    ) -> io::Result<Replay>
+    ) -> Result<(), End>
         requires { length raw.old ≡ 2 * length samples.old }
     {
-        if !fill_both(input, bytes, raw) {
-            return Ok(self.stopped());
-        }
-        let decoder = run_decoder(self.decoder, output, raw, bytes, samples)?;
-        Ok(self.with_decoder(decoder))
+        self.fill(bytes)?;
+        self.fill(raw)?;
+        pcm::read(raw, samples);
+        let coded = self.decoder.decode(bytes, samples);
+        pcm::write(samples, raw);
+        self.answer_coded(coded)?;
+        self.answer(raw)
     }
 
-    fn seek<R: Read, W: Write>(self, input: &mut R, output: &mut W) -> io::Result<Replay> {
-        let mut position = [0u8; 8];
-        if !fill(input, &mut position) {
-            return Ok(self.stopped());
-        }
-        let decoder = self.decoder;
-        let sought = decoder.sought(long_number(position));
-        let outcome = sought.outcome;
-        answer_sought(output, outcome)?;
-        let decoder = sought.decoder;
-        Ok(self.with_decoder(decoder))
+    fn seek(&mut self) -> Result<(), End> {
+        let position = u64::from_le_bytes(self.next()?);
+        let sought = self.decoder.seek(position);
+        let (offset, skip) = sought.map_or((0, 0), |at| (at.byte_offset, at.skip_frames));
+        self.answer(&[error_byte(sought)])?;
+        self.answer(&offset.to_le_bytes())?;
+        self.answer(&skip.to_le_bytes())
     }
 
-    fn allocate<R: Read, W: Write>(self, input: &mut R, output: &mut W) -> io::Result<Replay> {
-        let mut set = NO_SET;
-        let mut left = [0u8; 8];
-        let mut right = [0u8; 8];
-        if !fill(input, &mut set) {
-            return Ok(self.stopped());
-        }
-        if !fill_both(input, &mut left, &mut right) {
-            return Ok(self.stopped());
-        }
-        answer_allocated(output, set_of(set), left, right)?;
-        Ok(self)
+    fn allocate(&mut self) -> Result<(), End> {
+        let set = set_of(self.next()?);
+        let factors = [self.next()?, self.next()?];
+        let done = set.validate();
+        let [left, right] = done.map_or([[0; 8]; 2], |()| allocate(set, factors));
+        self.answer(&[error_byte(done)])?;
+        self.answer(&left)?;
+        self.answer(&right)
     }
 
-    fn finish<W: Write>(self, output: &mut W) -> io::Result<Replay> {
-        answer(output, &[0])?;
-        let decoder = self.decoder;
-        Ok(self.with_decoder(decoder.finished()))
+    fn parameters(&mut self) -> Result<(), End> {
+        let last = self.decoder.parameters();
+        self.answer(&[0, u8::from(last.is_some())])?;
+        self.answer(&last.map_or([0; 9], bytes_of))
     }
 
-    fn reset_decoder<W: Write>(self, output: &mut W) -> io::Result<Replay> {
-        answer(output, &[0])?;
-        let decoder = self.decoder;
-        Ok(self.with_decoder(decoder.restarted()))
+    fn finish(&mut self) -> Result<(), End> {
+        self.decoder.finish();
+        self.answer(&[0])
     }
 
-    fn reset_encoder<W: Write>(self, output: &mut W) -> io::Result<Replay> {
-        answer(output, &[0])?;
-        let encoder = self.encoder;
-        Ok(self.with_encoder(encoder.restarted()))
+    fn reset_decoder(&mut self) -> Result<(), End> {
+        self.decoder.reset();
+        self.answer(&[0])
     }
 
-    fn parameters<W: Write>(self, output: &mut W) -> io::Result<Replay> {
-        let decoder = self.decoder;
-        answer_last(output, decoder.parameters())?;
-        Ok(self)
+    fn reset_encoder(&mut self) -> Result<(), End> {
+        self.encoder.reset();
+        self.answer(&[0])
     }
 
     // One request.
-    fn next<R: Read, W: Write>(
-        self,
-        input: &mut R,
-        output: &mut W,
-        raw: &mut [u8],
-        bytes: &mut [u8],
-        samples: &mut [i16],
-    ) -> io::Result<Replay> {
-        let mut request = [0u8; 1];
-        if !fill(input, &mut request) {
-            return Ok(self.stopped());
-        }
-        match request[0] {
-            b'P' => self.parse(input, output, bytes),
-            b'V' => self.validate(input, output),
-            b'N' => self.new_encoder(input, output),
-            b'E' => self.encode(input, output, raw, bytes, samples),
-            b'D' => self.decode(input, output, raw, bytes, samples),
-            b'S' => self.seek(input, output),
-            b'F' => self.finish(output),
-            b'R' => self.reset_decoder(output),
-            b'r' => self.reset_encoder(output),
-            b'Q' => self.parameters(output),
-            b'A' => self.allocate(input, output),
-            _ => Ok(self.stopped()),
+    fn request(&mut self) -> Result<(), End> {
+        let [request]: [u8; 1] = self.next()?;
+        match request {
+            b'P' => self.parse(),
+            b'V' => self.validate(),
+            b'N' => self.new_encoder(),
+            b'E' => self.encode(),
+            b'D' => self.decode(),
+            b'S' => self.seek(),
+            b'F' => self.finish(),
+            b'R' => self.reset_decoder(),
+            b'r' => self.reset_encoder(),
+            b'Q' => self.parameters(),
+            b'A' => self.allocate(),
+            _ => Err(End::Input),
         }
     }
-}
 
-// A proved loop has to end, and nothing says that the input does. So the loop counts its turns, up to a number that no run uses up.
-fn run<R: Read, W: Write>(
-    input: &mut R,
-    output: &mut W,
-    raw: &mut [u8],
-    bytes: &mut [u8],
-    samples: &mut [i16],
-) -> io::Result<()> {
-    let mut replay = Replay::new();
-    for _ in 0..u64::MAX {
-        if !replay.going {
-            break;
+    // A proved loop has to end, and nothing says that the input does. So the loop counts its turns, up to a number that no run uses up.
+    fn run(&mut self) -> Result<(), End> {
+        for _ in 0..u64::MAX {
+            self.request()?;
         }
-        replay = replay.next(input, output, raw, bytes, samples)?;
+        Ok(())
     }
-    Ok(())
 }
 
 fn main(rt: HostRuntime) -> io::Result<()> {
-    let mut raw = [0u8; 131072];
-    let mut bytes = [0u8; 65536];
-    let mut samples = [0i16; 65536];
-    let mut input = rt.reader();
-    let mut output = io::writer(&rt);
-    run(&mut input, &mut output, &mut raw, &mut bytes, &mut samples)
+    let mut replay = Replay {
+        input: rt.reader(),
+        output: io::writer(&rt),
+        decoder: SbcDecoder::new(),
+        encoder: SbcEncoder::silent(SbcParameters::HIGH_QUALITY),
+        alloc: rt.alloc(),
+    };
+    match replay.run() {
+        Ok(()) | Err(End::Input) => Ok(()),
+        Err(End::Failed(error)) => Err(error),
+    }
 }
