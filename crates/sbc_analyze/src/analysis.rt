@@ -44,6 +44,7 @@ fn window_sum<B: Bank>(history: &[i16; 80], k: usize) -> i64
 }
 
 // Y[0] .. Y[2 S - 1].
+// Kept: its bound in three contracts, no plainer otherwise: a struct for it would be made here and taken apart by `fold`, with no method.
 fn windows<B: Bank>(history: &[i16; 80]) -> [i32; 16]
     ensures { (result ≡ build 16 (up_to (2 * B.SUBBANDS) (windowed B.SUBBANDS history.now))) × (Within 400000000 result) }
 {
@@ -84,6 +85,7 @@ fn fold_all<B: Bank>(partial: &[i32; 16]) -> [i32; 8]
 }
 
 // `count` entries of the matrix, from `at` on, times the even columns (`odd` 0), or the odd ones (1).
+// Kept: `odd` as a number, no plainer otherwise: the place in the matrix and the columns are computed with it.
 fn column_sum(matrix: &[i32], columns: &[i32; 8], at: usize, odd: usize, count: usize) -> i64
     requires { (odd < 2) × (Within 800000000 columns.now) × (Part matrix.now at count) }
     ensures { result ≡ sum_z count (column_term matrix.now columns.now at odd) }
@@ -135,8 +137,8 @@ fn output_all<B: Bank>(even: &[i64; 4], odd: &[i64; 4]) -> [i32; 8]
     samples
 }
 
-// One block of analysis, for the filterbank's S subbands: the first S places of `input` count, and past S outputs there are zeros. The history
-// is altered where the caller has it.
+// One block of analysis, for the filterbank's S subbands: the first S places of `input` count, and past S outputs there are zeros. The
+// history is altered where the caller has it.
 pub fn analyze_by<B: AnalysisBank>(history: &mut [i16; 80], input: &[i16; 8]) -> [i32; 8]
     ensures history { history.new ≡ shifted B.SUBBANDS history.old input.now }
     ensures outputs { result ≡ padded (analysis_outputs B.SUBBANDS (shifted B.SUBBANDS history.old input.now)) }

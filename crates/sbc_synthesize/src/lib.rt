@@ -17,8 +17,9 @@ use sbc_filterbank::{Synthesis, advance};
 use sbc_modulate::{SynthesisBank, pair_all, push, row_all};
 use sbc_tables::{Bank, Eight, Four};
 
-// Where V_b[0], or V_b[S] for odd b, stands in the ring, with the S - 1 numbers that the other outputs take behind it: as if the ring's slots
-// went on, and back by the ten slots where they end.
+// Where V_b[0], or V_b[S] for odd b, stands in the ring, with the S - 1 numbers that the other outputs take behind it: as if the ring's
+// slots went on, and back by the ten slots where they end.
+// Kept: `newest` below 10 in three contracts: a `Synthesis` may hold any number, and a narrower type would ask more of who makes one.
 fn place<B: Bank>(newest: usize, b: usize) -> usize
     requires { (newest < 10) × (b < 10) }
     ensures { (j : ℕ) → j < B.SUBBANDS
