@@ -2,7 +2,6 @@
 ghost use Rattle.std.specs.Prelude.{◌≡◌, length};
 ghost use Rattle.sbc_figures.specs.Distance.{apart, unequal, differing, farthest};
 
-
 fn apart(a: i16, b: i16) -> u32
     ensures { result ≡ apart a b }
 {
@@ -40,7 +39,7 @@ pub fn farthest(ours: &[i16], theirs: &[i16]) -> u32
     requires { length ours.now ≡ length theirs.now }
     ensures { result ≡ farthest ours.now theirs.now }
 {
-    let mut top = 0;
+    let mut top = 0u32;
     for i in 0..ours.len() {
         top = top.max(apart(ours[i], theirs[i]));
     }
