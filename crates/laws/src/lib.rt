@@ -1,7 +1,7 @@
 // Laws on integers, sums, lists and bit fields, in specs/ and proofs/, and small functions on integers and lists. Nothing here knows of audio.
 #![tactic(auto)]
 
-ghost use Rattle.std.specs.Prelude.{◌≡◌, ◌^◌, ◌<◌, ◌≤◌, ◌+ℤ◌, ◌*ℤ◌, if◌then◌else◌};
+ghost use Rattle.std.specs.Prelude.{◌≡◌, ◌^◌, ◌<◌, ◌+ℤ◌, ◌*ℤ◌, if◌then◌else◌};
 ghost use Rattle.std.specs.Int.{w16, w32, w64};
 ghost use Rattle.std.proofs.Common.{SFits};
 ghost use Rattle.laws.specs.Lists.{index_of, listed, place_in};
@@ -13,13 +13,6 @@ pub fn power_of_two(exponent: u32) -> u32
     ensures { result ≡ 2 ^ exponent }
 {
     1 << exponent
-}
-
-// A byte as a 32-bit number; its bound is what the callers' sums rest on.
-pub fn wide(x: u8) -> u32
-    ensures { (result ≡ x) × (result ≤ 255) }
-{
-    x as u32
 }
 
 // sum + a * b, where that fits.
@@ -39,6 +32,7 @@ pub fn shift_down(x: i64, bits: u32) -> i32
 }
 
 // The nearest i32.
+// Kept: this and `clamp_i16` stay two. Each is one line over the library's clamp; a trait for both would hold the same two lines, and be no plainer.
 #[tactic(auto, using(crate::proofs::Clamps::clamp_is), unfolding(crate::specs::Integers::clamp_z))]
 pub fn clamp_i32(x: i64) -> i32
     ensures { result ≡ clamp_z w32 x }
