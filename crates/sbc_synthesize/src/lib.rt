@@ -91,8 +91,8 @@ fn output<B: Bank>(sums: &[i64; 8]) -> [i16; 8]
 
 // One block of synthesis, for the filterbank's S subbands: the first S places of `input` count, and past S outputs there are zeros. The
 // history is altered where the caller has it. The bound on the samples keeps pairs within an i32 and sums within an i64.
-// Never inlined: into a loop over blocks, whose history is a local, the compiler would choose each of the 80 places anew (40,900 instructions a
-// frame of HIGH_QUALITY against 31,300).
+// Never inlined: in a loop over blocks, whose history is a local, the compiler would choose each of the 80 places anew (40,900 instructions
+// a frame of HIGH_QUALITY against 31,300).
 #[inline(never)]
 pub fn synthesize_by<B: SynthesisBank>(history: &mut Synthesis, input: &[i32; 8]) -> [i16; 8]
     requires { Within (2 ^ 29) input.now }
