@@ -60,7 +60,8 @@ moved-is S n X ys q long copied below from =
     (λ k h. by-test (λ z. z ≡ get_or ys k (pos 0)) (ltb k S) (get_or X k (pos 0)) (moved_up S (9 * S) X k)
     (λ e. sym (below k (pos 0) (ltb-true k S e)))
     (λ e. by-test (λ z. z ≡ get_or ys k (pos 0)) (ltb k (9 * S + S)) (get_or X (k - S) (pos 0)) (get_or X k (pos 0))
-    (λ t. sym (copied k (pos 0) (ltb-false k S e) (omega (arith, ltb-true k (9 * S + S) t)) ∙ ap (λ (i : ℕ). get_or X i (pos 0)) (omega arith)))
+    (λ t. sym (copied k (pos 0) (ltb-false k S e) (omega (arith, ltb-true k (9 * S + S) t)) ∙ ap (λ (i : ℕ). get_or X i (pos 0))
+    (omega arith)))
     (λ t. sym (from k (pos 0) (omega (arith, ltb-false k (9 * S + S) t)))))))
 
 -- ---- the two steps are the shift of the definition, where what moves comes to its first 10 S places

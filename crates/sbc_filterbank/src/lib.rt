@@ -1,5 +1,7 @@
-// The analysis and synthesis filterbanks of SBC. Their definitions stand in specs/, and the laws of these in proofs/; here are the ring that
-// the synthesis filterbank remembers from block to block, and the channel of PCM that either filterbank reads or writes. The code that analyzes and synthesizes a block is in the crates sbc_analyze,
+// The analysis and synthesis filterbanks of SBC. Their definitions stand in specs/, and the laws of these in proofs/; here are the ring
+// that
+// the synthesis filterbank remembers from block to block, and the channel of PCM that either filterbank reads or writes. The code that
+// analyzes and synthesizes a block is in the crates sbc_analyze,
 // sbc_modulate and sbc_synthesize.
 #![tactic(auto)]
 

@@ -1,10 +1,5 @@
 -- `sbc_analyze_frame::analyze_block` meets its contract: a block of the definition.
 -- Assumes nothing.
-use mathlib.Core.Path.{◌∙◌, sym, ap}
-use mathlib.Core.List.{List}
-use lib.IntN.{ℤ}
-use Rattle.sbc_filterbank.specs.Subbands.{padded}
-use Rattle.sbc_filterbank.specs.Analysis.{analysis_outputs}
 use Rattle.sbc_analyze_frame.proofs.Analyzed.{entered}
 use Rattle.sbc_analyze_frame.proofs.analyze_block.Goals as goal
 

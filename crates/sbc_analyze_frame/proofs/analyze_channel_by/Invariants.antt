@@ -1,4 +1,5 @@
--- `sbc_analyze_frame::analyze_channel_by` meets its contract. The loop's invariant: the history is that after the blocks before `block`, and
+-- `sbc_analyze_frame::analyze_channel_by` meets its contract. The loop's invariant: the history is that after the blocks before `block`,
+-- and
 -- their subband samples stand in their places.
 -- Assumes nothing.
 use Prim.Native.Nat.{◌*◌, ◌-◌, ◌≤◌}

@@ -1,8 +1,9 @@
--- `sbc_modulate::pair_all` meets its contract. The loop's invariant: the places before n hold the sums and the differences, and the others 0.
+-- `sbc_modulate::pair_all` meets its contract. The loop's invariant: the places before n hold the sums and the differences, and the
+-- others 0.
 -- Two samples within 2^29 have a sum and a difference that fit.
 -- Assumes nothing.
-use Prim.Native.Nat.{ℕ, ◌-◌, ◌<◌}
-use mathlib.Core.Path.{◌∙◌, sym, ap}
+use Prim.Native.Nat.{◌-◌, ◌<◌}
+use mathlib.Core.Path.{◌∙◌, sym}
 use native.Mathlib.Omega.{arith}
 use lib.Dec.{lit<}
 use lib.IntN.{pos}

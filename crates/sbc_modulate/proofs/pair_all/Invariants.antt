@@ -1,4 +1,5 @@
--- `sbc_modulate::pair_all` meets its contract. The loop's invariant: the places before n hold the sums and the differences, and the others 0.
+-- `sbc_modulate::pair_all` meets its contract. The loop's invariant: the places before n hold the sums and the differences, and the
+-- others 0.
 -- Assumes nothing.
 use Prim.Native.Nat.{◌-◌, ◌/◌, ◌≤◌}
 use mathlib.Core.Path.{◌≡◌}

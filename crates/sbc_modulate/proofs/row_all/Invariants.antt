@@ -8,7 +8,8 @@ use Rattle.sbc_modulate.specs.Fold.{row_sum}
 use Rattle.sbc_modulate.proofs.row_all.Given as goal
 
 abbrev pub invariant-loop-m : goal.invariant-loop-m
-invariant-loop-m g l = (l.m ≤ g.B.Bank.SUBBANDS) × (l.rows ≡ build 8 (up_to l.m (row_sum g.B.Bank.SUBBANDS l.pairs.sums l.pairs.differences)))
+invariant-loop-m g l = (l.m ≤ g.B.Bank.SUBBANDS) × (l.rows ≡ build 8 (up_to l.m
+    (row_sum g.B.Bank.SUBBANDS l.pairs.sums l.pairs.differences)))
 
 abbrev pub decreases-loop-m : goal.decreases-loop-m
 decreases-loop-m g l = g.B.Bank.SUBBANDS - l.m

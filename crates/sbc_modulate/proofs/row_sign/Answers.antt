@@ -11,7 +11,14 @@ pub returns-then-r-half-2 : goal.returns-then-r-half-2
 returns-then-r-half-2 g c = rw (sym c.SUBBANDS-subbands.ensures, ne_eqb _ _ c.if-r-half.false, lt-ltb _ _ c.if-r-half-2.true)
 
 pub returns-then-r-subbands : goal.returns-then-r-subbands
-returns-then-r-subbands g c = rw (sym c.SUBBANDS-subbands.ensures, ne_eqb _ _ c.if-r-half.false, le-ltb _ _ c.if-r-half-2.false, le-leb _ _ c.if-r-subbands.true)
+returns-then-r-subbands g c = rw
+    (sym c.SUBBANDS-subbands.ensures, ne_eqb _ _ c.if-r-half.false, le-ltb _ _ c.if-r-half-2.false, le-leb _ _ c.if-r-subbands.true)
 
 pub returns : goal.returns
-returns g c = rw (sym c.SUBBANDS-subbands.ensures, ne_eqb _ _ c.if-r-half.false, le-ltb _ _ c.if-r-half-2.false, lt-leb _ _ c.if-r-subbands.false)
+returns g c = rw (
+  sym c.SUBBANDS-subbands.ensures,
+  ne_eqb _ _ c.if-r-half.false,
+  le-ltb _ _ c.if-r-half-2.false,
+  lt-leb _ _
+      c.if-r-subbands.false,
+)

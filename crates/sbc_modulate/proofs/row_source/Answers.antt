@@ -17,7 +17,8 @@ pub overflow_mul-half : goal.overflow_mul-half
 overflow_mul-half g c = omega (arith, bands-le g.met.B.Bank.bands)
 
 pub returns-then-r-half-2 : goal.returns-then-r-half-2
-returns-then-r-half-2 g c = rw (sym c.SUBBANDS-subbands.ensures, le-ltb _ _ c.if-r-half.false, lt-leb _ _ c.if-r-subbands.false, le-leb _ _ c.if-r-half-2.true)
+returns-then-r-half-2 g c = rw
+    (sym c.SUBBANDS-subbands.ensures, le-ltb _ _ c.if-r-half.false, lt-leb _ _ c.if-r-subbands.false, le-leb _ _ c.if-r-half-2.true)
 
 pub overflow_mul-result : goal.overflow_mul-result
 overflow_mul-result g c = omega (arith, bands-le g.met.B.Bank.bands)
@@ -26,4 +27,10 @@ pub overflow_sub-result-3 : goal.overflow_sub-result-3
 overflow_sub-result-3 g c = omega (arith, bands-le g.met.B.Bank.bands, halves g.met.B.Bank.bands)
 
 pub returns : goal.returns
-returns g c = rw (sym c.SUBBANDS-subbands.ensures, le-ltb _ _ c.if-r-half.false, lt-leb _ _ c.if-r-subbands.false, lt-leb _ _ c.if-r-half-2.false)
+returns g c = rw (
+  sym c.SUBBANDS-subbands.ensures,
+  le-ltb _ _ c.if-r-half.false,
+  lt-leb _ _ c.if-r-subbands.false,
+  lt-leb _ _
+      c.if-r-half-2.false,
+)

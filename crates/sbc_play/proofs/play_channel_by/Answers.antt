@@ -21,7 +21,8 @@ loop-block-preserved g c =
     let args = c.args in
     let turn = c.loop-block in (
       omega arith,
-      length-next S args.history args.samples.now turn.block turn.after turn.invariant.2 160 _ c.play_block.ensures.history turn.invariant.1,
+      length-next S args.history args.samples.now turn.block turn.after turn.invariant.2 160 _ c.play_block.ensures.history
+          turn.invariant.1,
       after_next S args.history args.samples.now turn.block turn.after turn.invariant.2 _ c.play_block.ensures.history,
       pcm-next S args.history args.samples.now turn.block turn.after turn.invariant.2 args.channel.count args.channel.index
           args.output.now _ _ turn.invariant.3 c.play_block.ensures.output,

@@ -19,7 +19,8 @@ none = record { values = []; newest = 0 }
 
 pub play_channel-first-requires : goal.play_channel-first-requires
 play_channel-first-requires c =
-    let q = asked c.args.accepted.set 0 _ _ c.args.accepted.is_accepted c.channels-channels.ensures (omega (arith, channels-range c.args.accepted.set))
+    let q = asked c.args.accepted.set 0 _ _ c.args.accepted.is_accepted c.channels-channels.ensures (omega
+    (arith, channels-range c.args.accepted.set))
     c.requires.2 in (q.0, q.1, q.4, c.requires.0)
 
 pub returns-then-channels-eq1 : goal.returns-then-channels-eq1

@@ -58,14 +58,29 @@ pub bounds-sums-j : goal.bounds-sums-j
 bounds-sums-j g c = omega (arith, bands-le g.met.B.Bank.bands)
 
 pub overflow_mul-b : goal.overflow_mul-b
-overflow_mul-b g c = rw (c.SUBBANDS-subbands.ensures) (omega (arith, tap-below c.loop-j.j c.args.b g.met.B.Bank.bands (omega arith) c.requires.1, bands-le g.met.B.Bank.bands))
+overflow_mul-b g c = rw (c.SUBBANDS-subbands.ensures) (omega (
+  arith,
+  tap-below c.loop-j.j c.args.b g.met.B.Bank.bands
+      (omega arith) c.requires.1,
+  bands-le g.met.B.Bank.bands,
+))
 
 pub overflow_add-b : goal.overflow_add-b
-overflow_add-b g c = rw (c.SUBBANDS-subbands.ensures) (omega (arith, tap-below c.loop-j.j c.args.b g.met.B.Bank.bands (omega arith) c.requires.1, bands-le g.met.B.Bank.bands))
+overflow_add-b g c = rw (c.SUBBANDS-subbands.ensures) (omega (
+  arith,
+  tap-below c.loop-j.j c.args.b g.met.B.Bank.bands
+      (omega arith) c.requires.1,
+  bands-le g.met.B.Bank.bands,
+))
 
 pub offset_bounds-taps-b : goal.offset_bounds-taps-b
 offset_bounds-taps-b g c =
-    rw (c.SUBBANDS-subbands.ensures) (omega (arith, tap-below c.loop-j.j c.args.b g.met.B.Bank.bands (omega arith) c.requires.1, bands-le g.met.B.Bank.bands))
+    rw (c.SUBBANDS-subbands.ensures) (omega (
+      arith,
+      tap-below c.loop-j.j c.args.b g.met.B.Bank.bands
+          (omega arith) c.requires.1,
+      bands-le g.met.B.Bank.bands,
+    ))
 
 pub bounds-taps-b : goal.bounds-taps-b
 bounds-taps-b g c =
@@ -82,9 +97,11 @@ multiply_add-requires g c =
     let read : mag (get_or taps (c.args.b * c.SUBBANDS-subbands.result + c.loop-j.j) (pos 0)) < 2 ^ 31 = omega arith in
     let tap : mag (get_or taps (c.args.b * S + c.loop-j.j) (pos 0)) < 2 ^ 31 = rw (c.SUBBANDS-subbands.ensures) at read in
     let held : mag (get_or history.values (c.place-at.result + c.loop-j.j) (pos 0)) < 2 ^ 31 = omega arith in
-    let n = next history.newest history.values taps c.args.sums.now (c.place-at.result + c.loop-j.j) g.met.B.Bank.bands below c.requires.1 c.prototype-taps.ensures
+    let n = next history.newest history.values taps c.args.sums.now
+    (c.place-at.result + c.loop-j.j) g.met.B.Bank.bands below c.requires.1 c.prototype-taps.ensures
     c.requires.2 place.0 tap held in
-    rw (c.SUBBANDS-subbands.ensures) (summed-fits n 10 700000000 (tap-sum-bound c.loop-j.j g.met.B.Bank.bands below) (omega (arith, c.requires.1)) (lit< tt))
+    rw (c.SUBBANDS-subbands.ensures) (summed-fits n 10 700000000 (tap-sum-bound c.loop-j.j g.met.B.Bank.bands below) (omega
+    (arith, c.requires.1)) (lit< tt))
 
 pub offset_bounds-more-j : goal.offset_bounds-more-j
 offset_bounds-more-j g c = omega (arith, bands-le g.met.B.Bank.bands)
@@ -106,7 +123,8 @@ loop-j-preserved g c =
     let read : mag (get_or taps (c.args.b * c.SUBBANDS-subbands.result + turn.j) (pos 0)) < 2 ^ 31 = omega arith in
     let tap : mag (get_or taps (c.args.b * S + turn.j) (pos 0)) < 2 ^ 31 = rw (c.SUBBANDS-subbands.ensures) at read in
     let held : mag (get_or history.values (c.place-at.result + turn.j) (pos 0)) < 2 ^ 31 = omega arith in
-    let n = next history.newest history.values taps c.args.sums.now (c.place-at.result + turn.j) g.met.B.Bank.bands below c.requires.1 c.prototype-taps.ensures
+    let n = next history.newest history.values taps c.args.sums.now
+    (c.place-at.result + turn.j) g.met.B.Bank.bands below c.requires.1 c.prototype-taps.ensures
     c.requires.2 place.0 tap held in (
       omega arith,
       stored w64 8 _ _ _ _ (record { sfits = c.multiply_add.type_inv }) (omega (arith, bands-le g.met.B.Bank.bands)) turn.invariant.1

@@ -13,7 +13,8 @@ use Rattle.sbc_synthesize.proofs.add_vector.Given as goal
 abbrev pub invariant-loop-j : goal.invariant-loop-j
 invariant-loop-j g l =
     (l.j ≤ g.B.Bank.SUBBANDS) × (l.more ≡ build 8 (up_to l.j (summed g.B.Bank.SUBBANDS l.history.values l.history.newest l.b)))
-    × ((i : ℕ) → i < l.j → nat_abs (summed g.B.Bank.SUBBANDS l.history.values l.history.newest l.b i) ≤ tap_sum g.B.Bank.SUBBANDS (l.b + 1) i * 2 ^ 31)
+    × ((i : ℕ) → i < l.j → nat_abs (summed g.B.Bank.SUBBANDS l.history.values l.history.newest l.b i) ≤ tap_sum g.B.Bank.SUBBANDS
+    (l.b + 1) i * 2 ^ 31)
 
 abbrev pub decreases-loop-j : goal.decreases-loop-j
 decreases-loop-j g l = g.B.Bank.SUBBANDS - l.j

@@ -12,7 +12,8 @@ pub overflow_mul-at : goal.overflow_mul-at
 overflow_mul-at g c = rw (c.SUBBANDS-subbands.ensures) (omega (arith, bands-le g.met.B.Bank.bands))
 
 pub overflow_mul-at-2 : goal.overflow_mul-at-2
-overflow_mul-at-2 g c = rw (c.SUBBANDS-subbands.ensures) (omega (arith, place-ahead c.args.newest c.args.b g.met.B.Bank.bands c.requires.0 c.requires.1))
+overflow_mul-at-2 g c = rw (c.SUBBANDS-subbands.ensures) (omega
+    (arith, place-ahead c.args.newest c.args.b g.met.B.Bank.bands c.requires.0 c.requires.1))
 
 pub overflow_mul-at-3 : goal.overflow_mul-at-3
 overflow_mul-at-3 g c =
@@ -20,7 +21,8 @@ overflow_mul-at-3 g c =
     omega (arith, same, place-ahead c.args.newest c.args.b g.met.B.Bank.bands c.requires.0 c.requires.1)
 
 pub overflow_add-at-2 : goal.overflow_add-at-2
-overflow_add-at-2 g c = rw (c.SUBBANDS-subbands.ensures) (omega (arith, place-ahead c.args.newest c.args.b g.met.B.Bank.bands c.requires.0 c.requires.1))
+overflow_add-at-2 g c = rw (c.SUBBANDS-subbands.ensures) (omega
+    (arith, place-ahead c.args.newest c.args.b g.met.B.Bank.bands c.requires.0 c.requires.1))
 
 pub returns-then-newest-b-lt10 : goal.returns-then-newest-b-lt10
 returns-then-newest-b-lt10 g c =
@@ -34,4 +36,5 @@ overflow_sub-result g c = rw (c.SUBBANDS-subbands.ensures) (place-past c.args.ne
 
 pub returns : goal.returns
 returns g c =
-    rw (c.SUBBANDS-subbands.ensures) (λ j h. place-back c.args.newest j c.args.b g.met.B.Bank.bands c.requires.0 h c.requires.1 c.if-newest-b-lt10.false)
+    rw (c.SUBBANDS-subbands.ensures)
+    (λ j h. place-back c.args.newest j c.args.b g.met.B.Bank.bands c.requires.0 h c.requires.1 c.if-newest-b-lt10.false)

@@ -12,16 +12,33 @@ pub loop-i-init : goal.loop-i-init
 loop-i-init g c = (omega arith, fill_none 4 _)
 
 pub overflow_mul-i : goal.overflow_mul-i
-overflow_mul-i g c = rw (c.SUBBANDS-subbands.ensures) (omega (arith, (column-asks _ _ _ g.met.B.Bank.bands (rw (c.SUBBANDS-subbands.ensures) at c.loop-i-test.true) c.requires.0 c.columns-matrix.ensures).1))
+overflow_mul-i g c = rw (c.SUBBANDS-subbands.ensures) (omega (
+  arith,
+  (column-asks _ _ _ g.met.B.Bank.bands (rw
+      (c.SUBBANDS-subbands.ensures) at c.loop-i-test.true) c.requires.0 c.columns-matrix.ensures).1,
+))
 
 pub overflow_mul-odd : goal.overflow_mul-odd
-overflow_mul-odd g c = rw (c.SUBBANDS-subbands.ensures) (omega (arith, (column-asks _ _ _ g.met.B.Bank.bands (rw (c.SUBBANDS-subbands.ensures) at c.loop-i-test.true) c.requires.0 c.columns-matrix.ensures).1))
+overflow_mul-odd g c = rw (c.SUBBANDS-subbands.ensures) (omega (
+  arith,
+  (column-asks _ _ _ g.met.B.Bank.bands (rw
+      (c.SUBBANDS-subbands.ensures) at c.loop-i-test.true) c.requires.0 c.columns-matrix.ensures).1,
+))
 
 pub overflow_add-i : goal.overflow_add-i
-overflow_add-i g c = rw (c.SUBBANDS-subbands.ensures) (omega (arith, (column-asks _ _ _ g.met.B.Bank.bands (rw (c.SUBBANDS-subbands.ensures) at c.loop-i-test.true) c.requires.0 c.columns-matrix.ensures).1))
+overflow_add-i g c = rw (c.SUBBANDS-subbands.ensures) (omega (
+  arith,
+  (column-asks _ _ _ g.met.B.Bank.bands (rw
+      (c.SUBBANDS-subbands.ensures) at c.loop-i-test.true) c.requires.0 c.columns-matrix.ensures).1,
+))
 
 pub column_sum-requires : goal.column_sum-requires
-column_sum-requires g c = rw (c.SUBBANDS-subbands.ensures) (c.requires.0, c.requires.1, column-asks _ _ _ g.met.B.Bank.bands (rw (c.SUBBANDS-subbands.ensures) at c.loop-i-test.true) c.requires.0 c.columns-matrix.ensures)
+column_sum-requires g c = rw (c.SUBBANDS-subbands.ensures) (
+  c.requires.0,
+  c.requires.1,
+  column-asks _ _ _ g.met.B.Bank.bands (rw
+      (c.SUBBANDS-subbands.ensures) at c.loop-i-test.true) c.requires.0 c.columns-matrix.ensures,
+)
 
 pub offset_bounds-sums-i : goal.offset_bounds-sums-i
 offset_bounds-sums-i g c = omega (arith, bands-le g.met.B.Bank.bands)

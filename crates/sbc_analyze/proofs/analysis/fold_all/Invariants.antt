@@ -10,7 +10,8 @@ use Rattle.sbc_analyze.specs.Fold.{fold_column}
 use Rattle.sbc_analyze.proofs.analysis.fold_all.Given as goal
 
 abbrev pub invariant-loop-c : goal.invariant-loop-c
-invariant-loop-c g l = (l.c ≤ g.B.Bank.SUBBANDS) × (l.columns ≡ build 8 (up_to l.c (fold_column g.B.Bank.SUBBANDS (λ n. get_or l.partial n (pos 0)))))
+invariant-loop-c g l = (l.c ≤ g.B.Bank.SUBBANDS) × (l.columns ≡ build 8 (up_to l.c (fold_column g.B.Bank.SUBBANDS
+    (λ n. get_or l.partial n (pos 0)))))
 
 abbrev pub decreases-loop-c : goal.decreases-loop-c
 decreases-loop-c g l = g.B.Bank.SUBBANDS - l.c

@@ -57,7 +57,8 @@ pub bounds-odd-mirror : goal.bounds-odd-mirror
 bounds-odd-mirror g c = omega (arith, bands-le g.met.B.Bank.bands)
 
 pub overflow_sub-even : goal.overflow_sub-even
-overflow_sub-even g c = rw (c.SUBBANDS-2.ensures) (minus-fits w64 c.args.even.now c.args.odd.now c.requires.1 c.requires.2 (lit< tt) (g.B.Bank.SUBBANDS - 1 - c.args.i)
+overflow_sub-even g c = rw (c.SUBBANDS-2.ensures) (minus-fits w64 c.args.even.now c.args.odd.now c.requires.1 c.requires.2 (lit< tt)
+    (g.B.Bank.SUBBANDS - 1 - c.args.i)
     (g.B.Bank.SUBBANDS - 1 - c.args.i))
 
 pub shift_down-requires-2 : goal.shift_down-requires-2
@@ -71,7 +72,9 @@ shift_down-requires-2 g c = (
 
 pub returns : goal.returns
 returns g c =
-    let difference = read-minus w64 c.args.even.now c.args.odd.now c.requires.1 c.requires.2 (lit< tt) _ (g.B.Bank.SUBBANDS - 1 - c.args.i) in
-    read_back w32 c.shift_down-2.type_inv ∙ (rw (c.SUBBANDS-2.ensures) at c.shift_down-2.ensures) ∙ ap (λ (z : ℤ). floor_div z (2 ^ 33)) difference
+    let difference = read-minus w64 c.args.even.now c.args.odd.now c.requires.1 c.requires.2 (lit< tt) _
+    (g.B.Bank.SUBBANDS - 1 - c.args.i) in
+    read_back w32 c.shift_down-2.type_inv ∙ (rw (c.SUBBANDS-2.ensures) at c.shift_down-2.ensures) ∙ ap (λ (z : ℤ). floor_div z
+    (2 ^ 33)) difference
     ∙ sym (output-second g.B.Bank.SUBBANDS (λ k. get_or c.args.even.now k (pos 0)) (λ k. get_or c.args.odd.now k (pos 0))
     c.args.i (rw (c.SUBBANDS.ensures) at c.if-i-SUBBANDS.false))

@@ -49,7 +49,8 @@ multiply_add-sum-requires g c =
     let read : mag (get_or taps (place c.SUBBANDS.result) (pos 0)) < 2 ^ 31 = omega arith in
     let held : mag (get_or X (place c.SUBBANDS.result) (pos 0)) < 2 ^ 15 = omega arith in
     let w = next S c.args.k c.loop-j.j (place S) X taps (to_z w64 c.loop-j.sum-bits) c.from.result c.prototype-taps.ensures refl
-    c.loop-j.invariant.1 (rw (c.SUBBANDS.ensures) at read) (rw (c.SUBBANDS.ensures) at held) c.from.type_inv (rw (c.SUBBANDS.ensures) at c.from.ensures) in
+    c.loop-j.invariant.1 (rw (c.SUBBANDS.ensures) at read) (rw (c.SUBBANDS.ensures) at held) c.from.type_inv (rw
+    (c.SUBBANDS.ensures) at c.from.ensures) in
     rw (c.SUBBANDS.ensures) (summed-fits w 5 400000000 (column-bound _ g.met.B.Bank.bands c.requires) (omega arith) (lit< tt))
 
 pub loop-j-preserved : goal.loop-j-preserved
@@ -61,7 +62,8 @@ loop-j-preserved g c =
     let read : mag (get_or taps (place c.SUBBANDS.result) (pos 0)) < 2 ^ 31 = omega arith in
     let held : mag (get_or X (place c.SUBBANDS.result) (pos 0)) < 2 ^ 15 = omega arith in
     let w = next S c.args.k c.loop-j.j (place S) X taps (to_z w64 c.loop-j.sum-bits) c.from.result c.prototype-taps.ensures refl
-    c.loop-j.invariant.1 (rw (c.SUBBANDS.ensures) at read) (rw (c.SUBBANDS.ensures) at held) c.from.type_inv (rw (c.SUBBANDS.ensures) at c.from.ensures) in (
+    c.loop-j.invariant.1 (rw (c.SUBBANDS.ensures) at read) (rw (c.SUBBANDS.ensures) at held) c.from.type_inv (rw
+    (c.SUBBANDS.ensures) at c.from.ensures) in (
       omega arith,
       subst (WindowSummed S X c.args.k (c.loop-j.j + 1))
           (sym (read_back w64 c.multiply_add-sum.type_inv ∙ (rw (c.SUBBANDS.ensures) at c.multiply_add-sum.ensures))) w,
