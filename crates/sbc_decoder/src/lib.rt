@@ -22,7 +22,7 @@ pub struct SbcDecoder {
     pub parameters: Option<SbcParameters>,
     // By channel.
     pub synthesis: [Synthesis; 2],
-    // Whether the input is said to have ended.
+    // Whether the input is said to have ended. Kept: it says of no other field whether it holds something, so that an Option has no place here.
     pub finishing: bool,
     // Samples of each channel still to be dropped.
     pub skip: usize,

@@ -76,6 +76,7 @@ impl SbcEncoder {
             return Err(Error::BufferTooSmall);
         }
         let count = (input.len() / samples).min(output.len() / length);
+        // Kept: `let [left, right] = &mut self.analysis` was tried, and the check does not cover it; two histories are copied out and stored.
         let [mut left, mut right] = self.analysis;
         encode_frames(
             accepted,
