@@ -1,6 +1,6 @@
 -- The figures that document 01 marks M ("Checked figures"), as one table, proved of the definitions by one statement. A row has what the
 -- definitions give and what the document states. A set of parameters shows as its fields, a refusal as its number.
-use Rattle.std.specs.Prelude.{ℕ, ◌^◌, ◌≡◌, refl, List, [], ◌∷◌, ◌++◌, map, get_or, take, ℤ, pos, neg_ℤ}
+use Rattle.std.specs.Prelude.{ℕ, ◌^◌, ◌≡◌, refl, Some, List, [], ◌∷◌, ◌++◌, map, get_or, take, ℤ, pos, neg_ℤ}
 use Rattle.laws.specs.Answers.{Told, gives, refuses}
 use Rattle.laws.specs.Lists.{collect, build, all_of, index_of, listed}
 use Rattle.laws.specs.Bits.{odd, bits_of}
@@ -16,9 +16,8 @@ use Rattle.sbc_share.specs.Share.{base_bits, round_gain, round_bits, last_bit, s
 use Rattle.sbc_allocation.specs.Allocate.{channel_needs, allocate_by, allocate}
 use Rattle.sbc_quantizer.specs.Quantizing.{first_from, scale_factor, quantize, reconstruct}
 use Rattle.sbc_decoder.specs.Decode.{new_decoder, with_parameters}
-use Rattle.sbc_seek.specs.Seek.{seek_frame, seek_offset, seek_skip, request_of, request_in, seek_request}
+use Rattle.sbc_seek.specs.Seek.{seek_frame, seek_offset, seek_skip, request_in, seek_request}
 use Rattle.sbc_seek.specs.declared.SeekRequest.{SeekRequest}
-use Rattle.sbc_seek.specs.declared.LastParameters.TheVariants.{Some}
 use Rattle.sbc_decoder.specs.Seek.{seek_answered, seek}
 use Rattle.sbc_parameters.specs.declared.SbcParameters.{SbcParameters}
 use Rattle.sbc_modes.specs.declared.SbcChannelMode.TheVariants.{Mono, DualChannel}
@@ -126,7 +125,7 @@ pub figures_hold : map (λ row. row.given) table ≡ map (λ row. row.stated) ta
 unfolding sizes headers checksums shares share_set reconstructions quantizings factors seeks least_set dual_set shown_set shown_valid all_of
     index_of listed odd bits_of crc_step crc_bits high_quality msbc sample_rates block_counts channel_modes allocations subband_counts
     maximum_bitpool is_msbc msbc_tests field_tests accepted validate join_count block_bits audio_bits frame_length samples_per_channel
-    frame_samples from_settings parse seek_frame seek_offset seek_skip request_of request_in seek_request seek_answered seek
+    frame_samples from_settings parse seek_frame seek_offset seek_skip request_in seek_request seek_answered seek
     with_parameters new_decoder shown_seek first_from scale_factor quantize reconstruct build collect need sum above heights level_part
     level_bits descend greatest_need least_need level_of base_bits round_gain round_bits last_bit share_at share channel_needs allocate_by
     allocate

@@ -1,111 +1,81 @@
 // The figures of document 01, on the compiled code. A set of parameters shows as rate, mode, allocation, blocks, subbands and bitpool; a
 // refusal as its number. A function with many calls is proved slowly, so each group has its own.
-use crate::show::{byte, end_line, holds, number, refusal, text};
+use crate::show::{Refusal, Verdict};
 use sbc_allocation::allocate;
 use sbc_modes::{SbcAllocation, SbcChannelMode};
-use sbc_parameters::{Parsed, SbcParameters, Validated};
+use sbc_parameters::SbcParameters;
 use sbc_quantizer::{quantize, reconstruct, scale_factor};
 use std::io;
 
-fn parameters(rt: &impl Print, p: SbcParameters) -> io::Result<()> {
-    let mode = p.channel_mode;
-    let allocation = p.allocation;
-    number(rt, p.sample_rate as u64)?;
-    byte(rt, mode.number())?;
-    byte(rt, allocation.number())?;
-    byte(rt, p.blocks)?;
-    byte(rt, p.subbands)?;
-    byte(rt, p.bitpool)
-}
-
 // A frame's bytes and samples, and whether the set is accepted.
 fn sizes(rt: &impl Print, label: &str, p: SbcParameters) -> io::Result<()> {
-    text(rt, label)?;
-    number(rt, p.frame_length() as u64)?;
-    number(rt, p.frame_samples() as u64)?;
-    match p.validate() {
-        Validated::Accepted => text(rt, " accepted")?,
-        Validated::Refused(error) => refusal(rt, error)?,
+    let length = p.frame_length();
+    let samples = p.frame_samples();
+    match p.validate().map_err(Refusal) {
+        Ok(()) => println!(rt; "{label} {length} {samples} accepted"),
+        Err(refusal) => println!(rt; "{label} {length} {samples} {refusal}"),
     }
-    end_line(rt)
 }
 
 fn parse(rt: &impl Print, label: &str, bytes: &[u8]) -> io::Result<()> {
-    text(rt, label)?;
-    match SbcParameters::parse(bytes) {
-        Parsed::Parameters(p) => parameters(rt, p)?,
-        Parsed::Refused(error) => refusal(rt, error)?,
+    match SbcParameters::parse(bytes).map_err(Refusal) {
+        Ok(p) => {
+            let SbcParameters {
+                sample_rate,
+                channel_mode,
+                allocation,
+                blocks,
+                subbands,
+                bitpool,
+            } = p;
+            let mode = u8::from(channel_mode);
+            let allocation = u8::from(allocation);
+            println!(rt; "{label} {sample_rate} {mode} {allocation} {blocks} {subbands} {bitpool}")
+        }
+        Err(refusal) => println!(rt; "{label} {refusal}"),
     }
-    end_line(rt)
 }
 
 // The header of a set, and the bits that the checksum covers behind it.
 fn header(rt: &impl Print, label: &str, p: SbcParameters) -> io::Result<()> {
-    text(rt, label)?;
-    let bytes = p.header();
-    byte(rt, bytes[0])?;
-    byte(rt, bytes[1])?;
-    byte(rt, bytes[2])?;
-    number(rt, p.side_bits() as u64)?;
-    end_line(rt)
-}
-
-fn checksum(rt: &impl Print, label: &str, value: u8) -> io::Result<()> {
-    text(rt, label)?;
-    byte(rt, value)?;
-    end_line(rt)
+    let [a, b, c] = p.header();
+    let side = p.side_bits();
+    println!(rt; "{label} {a} {b} {c} {side}")
 }
 
 // `count` bits of A5 C3 0F F0 5A from bit `position` on, and the position after them.
 fn read(rt: &impl Print, label: &str, position: usize, count: u32) -> io::Result<()> {
-    text(rt, label)?;
-    let after = match bits::read_at(&[0xA5, 0xC3, 0x0F, 0xF0, 0x5A], position, count) {
+    match bits::read_at(&[0xA5, 0xC3, 0x0F, 0xF0, 0x5A], position, count) {
         Ok(read) => {
-            number(rt, u64::from(read.value))?;
-            read.position
+            let value = read.value;
+            let end = read.position;
+            println!(rt; "{label} {value} {end}")
         }
-        Err(error) => {
-            print!(rt; " {error:?}")?;
-            position
-        }
-    };
-    number(rt, after as u64)?;
-    end_line(rt)
+        Err(error) => println!(rt; "{label} {error:?} {position}"),
+    }
 }
 
 // What three bytes of FF are after `count` low bits of `value` were written from bit `position` on.
 fn write(rt: &impl Print, label: &str, position: usize, value: u32, count: u32) -> io::Result<()> {
-    text(rt, label)?;
     let mut bytes = [0xFFu8; 3];
-    let after = match bits::write_at(&mut bytes, position, value, count) {
-        Ok(end) => {
-            text(rt, " written")?;
-            end
-        }
-        Err(error) => {
-            print!(rt; " {error:?}")?;
-            position
-        }
-    };
-    number(rt, after as u64)?;
-    byte(rt, bytes[0])?;
-    byte(rt, bytes[1])?;
-    byte(rt, bytes[2])?;
-    end_line(rt)
+    let written = bits::write_at(&mut bytes, position, value, count);
+    let [a, b, c] = bytes;
+    match written {
+        Ok(end) => println!(rt; "{label} written {end} {a} {b} {c}"),
+        Err(error) => println!(rt; "{label} {error:?} {position} {a} {b} {c}"),
+    }
 }
 
 // The bits of the subbands of a mono set with 4 subbands and SNR.
 fn allocation(rt: &impl Print, label: &str, bitpool: u8, factors: [u8; 8]) -> io::Result<()> {
-    text(rt, label)?;
     let parameters = with_bitpool(SbcChannelMode::Mono, 4, 4, bitpool);
-    let table = allocate(parameters, [factors, [0u8; 8]]);
-    let row = table[0];
-    byte(rt, row[0])?;
-    byte(rt, row[1])?;
-    byte(rt, row[2])?;
-    byte(rt, row[3])?;
-    byte(rt, row[4])?;
-    end_line(rt)
+    let [[a, b, c, d, e, _, _, _], _] = allocate(parameters, [factors, [0u8; 8]]);
+    println!(rt; "{label} {a} {b} {c} {d} {e}")
+}
+
+fn holds(rt: &impl Print, label: &str, is_so: bool) -> io::Result<()> {
+    let verdict = Verdict(is_so);
+    println!(rt; "{label} {verdict}")
 }
 
 fn with_bitpool(
@@ -154,9 +124,11 @@ fn show_headers(rt: &impl Print) -> io::Result<()> {
 }
 
 fn show_checksums(rt: &impl Print) -> io::Result<()> {
-    checksum(rt, "8 bits of 01", crc8::update_bits(0, 0x01, 8))?;
-    checksum(rt, "8 bits of 80", crc8::update_bits(0, 0x80, 8))?;
-    checksum(rt, "4 bits of 1F", crc8::update_bits(0, 0x1F, 4))
+    for (byte, count) in [(0x01, 8), (0x80, 8), (0x1F, 4)] {
+        let checksum = crc8::update_bits(0, byte, count);
+        println!(rt; "{count} bits of {byte:02X} {checksum}")?;
+    }
+    Ok(())
 }
 
 fn show_fields(rt: &impl Print) -> io::Result<()> {
@@ -175,6 +147,7 @@ fn show_shares(rt: &impl Print) -> io::Result<()> {
     allocation(rt, "0 3 3 0 of 64", 64, [0, 3, 3, 0, 0, 0, 0, 0])
 }
 
+// Kept: no table of rows here: each call's arguments are shown to be in range where they stand.
 fn show_reconstructed(rt: &impl Print) -> io::Result<()> {
     holds(rt, "f 0 b 2 q 0: -1365", reconstruct(0, 0, 2) == -1365)?;
     holds(rt, "f 0 b 2 q 1: 0", reconstruct(1, 0, 2) == 0)?;
@@ -189,10 +162,11 @@ fn show_reconstructed(rt: &impl Print) -> io::Result<()> {
 }
 
 fn show_quantized(rt: &impl Print) -> io::Result<()> {
-    holds(rt, "f 0 b 2 sample -8192: 0", quantize(-8192, 0, 2) == 0)?;
-    holds(rt, "f 0 b 2 sample 0: 1", quantize(0, 0, 2) == 1)?;
-    holds(rt, "f 0 b 2 sample 8191: 2", quantize(8191, 0, 2) == 2)?;
-    holds(rt, "f 0 b 2 sample 8192: 3", quantize(8192, 0, 2) == 3)
+    for (sample, quantized) in [(-8192, 0), (0, 1), (8191, 2), (8192, 3)] {
+        let verdict = Verdict(quantize(sample, 0, 2) == quantized);
+        println!(rt; "f 0 b 2 sample {sample}: {quantized} {verdict}")?;
+    }
+    Ok(())
 }
 
 fn show_factors(rt: &impl Print) -> io::Result<()> {

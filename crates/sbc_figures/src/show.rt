@@ -1,46 +1,40 @@
-// What the program writes: words, numbers with a space before each, and verdicts.
-use codec::{Coded, Error};
-use std::io;
+// How the program writes refusals and verdicts.
+use codec::{Error, Progress};
+use std::fmt;
 
-pub fn text(rt: &impl Print, words: &str) -> io::Result<()> {
-    rt.print(words)
+// A refusal, by its number.
+#[derive(Clone, Copy)]
+pub struct Refusal(pub Error);
+
+impl fmt::Display for Refusal {
+    fn fmt<W: fmt::Write>(&self, f: &mut fmt::Formatter<W>) -> fmt::Result {
+        let number = u8::from(self.0);
+        write!(f, "refused {number}")
+    }
 }
 
-pub fn number(rt: &impl Print, n: u64) -> io::Result<()> {
-    print!(rt; " {n}")
-}
+// What a call consumed and produced, or its refusal.
+#[derive(Clone, Copy)]
+pub struct Answer(pub Result<Progress, Error>);
 
-pub fn byte(rt: &impl Print, n: u8) -> io::Result<()> {
-    number(rt, n as u64)
-}
-
-pub fn end_line(rt: &impl Print) -> io::Result<()> {
-    text(rt, "\n")
-}
-
-pub fn refusal(rt: &impl Print, error: Error) -> io::Result<()> {
-    text(rt, " refused")?;
-    byte(rt, error.number())
-}
-
-// What a call consumed and produced.
-pub fn progress(rt: &impl Print, coded: Coded) -> io::Result<()> {
-    match coded {
-        Coded::Done(progress) => {
-            number(rt, progress.consumed as u64)?;
-            number(rt, progress.produced as u64)
+impl fmt::Display for Answer {
+    fn fmt<W: fmt::Write>(&self, f: &mut fmt::Formatter<W>) -> fmt::Result {
+        match self.0 {
+            Ok(progress) => {
+                let Progress { consumed, produced } = progress;
+                write!(f, "{consumed} {produced}")
+            }
+            Err(error) => Refusal(error).fmt(f),
         }
-        Coded::Refused(error) => refusal(rt, error),
     }
 }
 
-// Whether the code gives what the label says.
-pub fn holds(rt: &impl Print, label: &str, ok: bool) -> io::Result<()> {
-    text(rt, label)?;
-    if ok {
-        text(rt, " holds")?;
-    } else {
-        text(rt, " fails")?;
+// Whether the code gives what stands before it.
+#[derive(Clone, Copy)]
+pub struct Verdict(pub bool);
+
+impl fmt::Display for Verdict {
+    fn fmt<W: fmt::Write>(&self, f: &mut fmt::Formatter<W>) -> fmt::Result {
+        f.write_str(if self.0 { "holds" } else { "fails" })
     }
-    end_line(rt)
 }

@@ -1,6 +1,6 @@
 // The mSBC frame of silence, as HFP's drivers carry it, both ways.
 use crate::distance::differing;
-use crate::show::{holds, number, progress, text};
+use crate::show::{Answer, Verdict};
 use sbc_decoder::SbcDecoder;
 use sbc_encoder::SbcEncoder;
 use sbc_parameters::SbcParameters;
@@ -15,28 +15,19 @@ const SILENCE: [u8; 57] = [
 
 // 120 zeros are written as that frame. The buffer begins with other bytes, so that one which is not written shows.
 pub fn encoded(rt: &impl Print) -> io::Result<()> {
-    let created = SbcEncoder::new(SbcParameters::MSBC);
-    let encoder = created.encoder;
-    let samples = [0i16; 120];
+    let mut encoder = SbcEncoder::silent(SbcParameters::MSBC);
     let mut frame = [0xAAu8; 57];
-    let result = encoder.encoded(&samples, &mut frame);
-    let answer = result.answer;
-    text(rt, "mSBC silence encoded")?;
-    progress(rt, answer)?;
-    holds(rt, " as published", frame == SILENCE)
+    let answer = Answer(encoder.encode(&[0; 120], &mut frame));
+    let verdict = Verdict(frame == SILENCE);
+    println!(rt; "mSBC silence encoded {answer} as published {verdict}")
 }
 
 // That frame is read as 120 zeros. The buffer begins with ones, so that a sample which is not written shows.
 pub fn decoded(rt: &impl Print) -> io::Result<()> {
-    let decoder = SbcDecoder::new();
+    let mut decoder = SbcDecoder::new();
     let mut samples = [1i16; 120];
-    let zeros = [0i16; 120];
-    let result = decoder.decoded(&SILENCE, &mut samples);
-    let answer = result.answer;
-    text(rt, "mSBC silence decoded")?;
-    progress(rt, answer)?;
-    let count = differing(&samples, &zeros);
-    text(rt, ", from zeros differ")?;
-    number(rt, count as u64)?;
-    holds(rt, ",", count == 0)
+    let answer = Answer(decoder.decode(&SILENCE, &mut samples));
+    let count = differing(&samples, &[0; 120]);
+    let verdict = Verdict(count == 0);
+    println!(rt; "mSBC silence decoded {answer}, from zeros differ {count}, {verdict}")
 }
