@@ -5,6 +5,7 @@ pub mod Looking
 pub mod Accepted
 pub mod NextCall
 pub mod Untouched
+pub mod Validating
 pub mod Faults
 pub mod Following
 pub mod Reaching

@@ -127,6 +127,7 @@ impl Group<'_> {
 }
 
 // The sum of a group's bits.
+// Kept: a `for` in place of `map` and `sum`: of that chain the clause `fits`, that no sum wraps, stayed open.
 fn total_bits(bits: [u8; 16]) -> u32
     ensures { result ≡ sum_by (λ b. b) bits }
 {
@@ -157,6 +158,7 @@ fn last_bit(bits: [u8; 16], n: usize) -> [u8; 16]
 }
 
 // The bits of a group, by its needs; zeros stand behind them.
+// Kept: sixteen places, whatever the group has, since the codec keeps to fixed memory.
 pub fn share_bits(needs: &[u32], bitpool: u32) -> [u8; 16]
     requires { Servable needs.now bitpool }
     ensures { result ≡ share (map lowered needs.now) bitpool ++ replicate (16 - length needs.now) 0 }

@@ -10,6 +10,7 @@ use lib.IntN.{ℤ, pos, ◌+ℤ◌}
 use mir.Syntax.{w32, w64}
 use mir.Val.{SFits, to_z, of_z}
 use mir.Facts.{to_z-of_z, to_z_pos, sfits_widen}
+use Rattle.std.specs.Int.{int_max, int_min}
 use Rattle.laws.proofs.Abs.{abs-sfits, sum_fits}
 use Rattle.sbc_quantizer.proofs.Limits.{held_is}
 use Rattle.sbc_quantizer.proofs.raised.Goals as goal
@@ -44,5 +45,5 @@ pub returns : goal.returns
 returns c =
     let s = read_sum _ _ c.ranges.sample c.ranges.limit.fits in
     let t = read_top _ _ c.ranges.sample c.ranges.limit.fits in
-    let held = rw (s, t) at c.clamp.ensures.value in
+    let held = c.clamp.ensures.value ∙ ap₂ (λ a b. int_max (pos 0) (int_min a b)) s t in
     to_z-of_z {w = w64} (record { sfits = c.clamp.type_inv }) ∙ held ∙ held_is _ _
