@@ -1,7 +1,7 @@
 // What each subband needs: from its scale factor and, by loudness, from the table of offsets.
 #![tactic(auto)]
 
-ghost use Rattle.std.specs.Prelude.{◌≡◌, [], ◌≤◌, ◌<◌, get_or, pos};
+ghost use Rattle.std.specs.Prelude.{◌≡◌, [], ◌≤◌, get_or, pos};
 ghost use Rattle.std.specs.Int.Signed.{mag};
 ghost use Rattle.sbc_parameters.specs.Header.{frequency_index};
 ghost use Rattle.sbc_tables.specs.Tables.{loudness_offsets};
@@ -13,7 +13,6 @@ use sbc_tables::{Bank, Eight, Four};
 
 // The loudness offset of a subband in the table of a bank, and 0 for one past the table.
 fn offset_in<B: Bank>(frequency: usize, subband: usize) -> i32
-    requires { frequency < 4 }
     ensures { result ≡ get_or (get_or (loudness_offsets B.SUBBANDS) frequency []) subband (pos 0) }
 {
     B::loudness_offsets(frequency)
@@ -25,7 +24,6 @@ fn offset_in<B: Bank>(frequency: usize, subband: usize) -> i32
 // The loudness offset of a subband, and 0 for one past the table.
 #[tactic(auto, unfolding(sbc_tables::specs::Tables::loudness_offsets))]
 fn loudness_offset(subbands: u8, frequency: usize, subband: usize) -> i32
-    requires { frequency < 4 }
     ensures { result ≡ get_or (get_or (loudness_offsets subbands) frequency []) subband (pos 0) }
 {
     if subbands == 4 {

@@ -4,7 +4,7 @@
 // they are, and the tables that depend on the number of subbands are what a `Bank` gives.
 #![tactic(auto)]
 
-ghost use Rattle.std.specs.Prelude.{ℕ, ◌≡◌, ◌⊎◌, ◌<◌, [], get_or, refl};
+ghost use Rattle.std.specs.Prelude.{ℕ, ◌≡◌, ◌⊎◌, [], get_or, refl};
 ghost use Rattle.std.proofs.Common.{inl, inr};
 ghost use Rattle.sbc_tables.specs.Tables.{loudness_offsets, prototype, cosines};
 
@@ -18,9 +18,8 @@ pub trait Bank {
     fn prototype() -> &'static [i32]
         ensures { result.now ≡ prototype SUBBANDS };
 
-    // The loudness offsets of a rate, by its index: one for each subband.
+    // The loudness offsets of a rate, by its index: one for each subband, and none for an index past the rates.
     fn loudness_offsets(frequency: usize) -> &'static [i32]
-        requires { frequency < 4 }
         ensures { result.now ≡ get_or (loudness_offsets SUBBANDS) frequency [] };
 
     // S is 4 or 8.
@@ -45,7 +44,11 @@ impl Bank for Four {
     }
 
     fn loudness_offsets(frequency: usize) -> &'static [i32] {
-        &LOUDNESS_OFFSETS_4[frequency]
+        if frequency < 4 {
+            &LOUDNESS_OFFSETS_4[frequency]
+        } else {
+            &[]
+        }
     }
 }
 
@@ -61,7 +64,11 @@ impl Bank for Eight {
     }
 
     fn loudness_offsets(frequency: usize) -> &'static [i32] {
-        &LOUDNESS_OFFSETS_8[frequency]
+        if frequency < 4 {
+            &LOUDNESS_OFFSETS_8[frequency]
+        } else {
+            &[]
+        }
     }
 }
 

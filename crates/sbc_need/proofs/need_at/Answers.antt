@@ -12,7 +12,6 @@ use Rattle.laws.proofs.Abs.{read_back}
 use Rattle.sbc_parameters.specs.declared.SbcParameters.{SbcParameters}
 use Rattle.sbc_parameters.specs.Header.{frequency_index}
 use Rattle.sbc_tables.specs.Tables.{loudness_offsets}
-use Rattle.sbc_parameters.proofs.Numbers.{frequency-lt}
 use Rattle.sbc_need.specs.Need.{loudness_offset, loudness_need, need_by, need}
 use Rattle.sbc_need.proofs.Needs.{offset-small}
 use Rattle.sbc_need.proofs.need_at.Goals as goal
@@ -22,9 +21,6 @@ offset_is : (p : SbcParameters) (frequency subband : ℕ) (o : ℤ) → frequenc
     → o ≡ get_or (get_or (loudness_offsets p.subbands) frequency []) subband (pos 0) → o ≡ loudness_offset p subband
 unfolding loudness_offset
 offset_is p frequency subband o at is = rw (← at) is
-
-pub loudness_offset-requires : goal.loudness_offset-requires
-loudness_offset-requires c = omega (arith, frequency-lt c.args.parameters)
 
 pub loudness_need-requires : goal.loudness_need-requires
 loudness_need-requires c =

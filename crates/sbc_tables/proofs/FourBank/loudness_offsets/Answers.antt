@@ -1,9 +1,16 @@
--- The loudness offsets of 4 subbands are the definition's, entry by entry.
+-- The loudness offsets of 4 subbands are the definition's, entry by entry, and none past its rows.
 -- Assumes nothing.
-use Rattle.std.proofs.Common.{refl}
+use Rattle.std.proofs.Common.{refl, sym}
+use mathlib.Core.List.{[]}
+use native.Mathlib.Omega.{arith}
+use Rattle.std.proofs.lemmas.List.{get_or_past}
 use Rattle.sbc_tables.specs.Tables.{loudness_offsets, loudness_offsets4}
 use Rattle.sbc_tables.proofs.FourBank.loudness_offsets.Goals as goal
 
-pub returns : goal.returns
+pub returns-then-frequency-lt4 : goal.returns-then-frequency-lt4
 unfolding loudness_offsets loudness_offsets4
-returns c = refl
+returns-then-frequency-lt4 c = refl
+
+pub returns-else-frequency-lt4 : goal.returns-else-frequency-lt4
+unfolding loudness_offsets loudness_offsets4
+returns-else-frequency-lt4 c = sym (get_or_past loudness_offsets4 c.args.frequency [] (omega arith))
