@@ -22,11 +22,14 @@ impl Coder for Decoding {
     ghost use Rattle.std.specs.Prelude.{◌≡◌, ℕ};
     ghost use Rattle.laws.specs.Answers.{gives};
     ghost use Rattle.codec.specs.Answers.{progress_of};
-    ghost use Rattle.sbc_decoder.specs.Decode.{decode};
+    ghost use Rattle.sbc_decoder.specs.Decode.{decode, finish};
 
     // What a decode call says.
     ghost codes = { λ old bytes used new. (produced : ℕ) × (decode old.decoder bytes old.samples
         ≡ record { answer = gives (progress_of used produced); decoder = new.decoder; output = new.samples }) };
+
+    // The decoder is told that its input ends.
+    ghost ends = { λ old new. new.decoder ≡ finish old.decoder };
 
     fn code(&mut self, rt: &impl Print, bytes: &[u8]) -> Result<usize, Stop> {
         let progress = self.decoder.decode(bytes, &mut self.samples)?;

@@ -41,11 +41,16 @@ impl Coder for Encoding {
         × (encode old.encoder (samples_in count (take (2 * count) raw)) old.frames
         ≡ record { answer = gives (progress_of consumed produced); encoder = new.encoder; output = new.frames }) };
 
+    // Samples that do not fill a frame are left out, so that nothing changes.
+    ghost ends = { λ old new. new ≡ old };
+
     fn code(&mut self, rt: &impl Print, raw: &[u8]) -> Result<usize, Stop> {
         let progress = encode(&mut self.encoder, raw, &mut self.samples, &mut self.frames)?;
         rt.write_all(&self.frames[..progress.produced])?;
         Ok(2 * progress.consumed)
     }
+
+    fn finish(&mut self) {}
 }
 
 // Encodes the samples of the raw bytes, as many as there is room for.

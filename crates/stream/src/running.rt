@@ -1,5 +1,6 @@
 // A coder between the standard input and the standard output: what the programs that decode and encode a stream of any length share.
 ghost use Rattle.std.specs.Prelude.{◌≡◌, ℕ, ◌≤◌, List, length, take, IfOk, OnOk};
+ghost use Rattle.stream.specs.declared.running.Stop.TheVariants.{Refused, Failed};
 
 use crate::{keep, read_on, report};
 use codec::Error;
@@ -14,12 +15,16 @@ pub enum Stop {
 }
 
 impl From<Error> for Stop {
+    ghost from_gives = { λ error stop. stop ≡ Refused error };
+
     fn from(error: Error) -> Stop {
         Stop::Refused(error)
     }
 }
 
 impl From<io::Error> for Stop {
+    ghost from_gives = { λ error stop. stop ≡ Failed error };
+
     fn from(error: io::Error) -> Stop {
         Stop::Failed(error)
     }
@@ -30,13 +35,17 @@ pub trait Coder {
     // Whether the coder takes so many of these bytes, and which coder it is then.
     ghost codes: { Self → List ℕ → ℕ → Self → Type 0 };
 
+    // Which coder it is at the end of the bytes.
+    ghost ends: { Self → Self → Type 0 };
+
     // Takes some of the bytes, from their front, and answers how many: none where it has to see more of them.
     fn code(&mut self, rt: &impl Print, bytes: &[u8]) -> Result<usize, Stop>
         ensures within { IfOk result (λ used. used ≤ length bytes.now) }
         ensures coded { IfOk result (λ used. codes self.old bytes.now used self.new) };
 
     // Says that no byte comes behind those that are held.
-    fn finish(&mut self) {}
+    fn finish(&mut self)
+        ensures { ends self.old self.new };
 }
 
 // Has a reader's bytes coded to their end, by way of the buffer: at the end the coder takes none of what is left.
