@@ -1,0 +1,7 @@
+-- `BlockCount::of` meets its contract.
+-- Assumes nothing.
+use Rattle.sbc_parameters.proofs.Accepted.{ranges}
+use Rattle.sbc_frame.proofs.BlockCount.of.Goals as goal
+
+pub invariant_of-result : goal.invariant_of-result
+invariant_of-result c = record { at_most_16 = (ranges _ c.args.accepted.is_accepted).blocks-high }
