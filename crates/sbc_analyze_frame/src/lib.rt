@@ -12,6 +12,7 @@ ghost use Rattle.sbc_frame.specs.Arrays.{samples_array};
 
 use sbc_analyze::{AnalysisBank, analyze_by};
 use sbc_filterbank::PcmChannel;
+use sbc_frame::BlockCount;
 use sbc_tables::{Bank, Eight, Four};
 
 // A channel's samples of one block.
@@ -48,18 +49,18 @@ fn analyze_block<B: AnalysisBank>(
 fn analyze_channel_by<B: AnalysisBank>(
     history: &mut [i16; 80],
     input: &[i16],
-    blocks: usize,
+    blocks: BlockCount,
     channel: PcmChannel,
 ) -> [i32; 128]
-    requires { (blocks ≤ 16) × (blocks * B.SUBBANDS * channel.count ≤ length input.now) }
+    requires { blocks.count * B.SUBBANDS * channel.count ≤ length input.now }
     ensures history { history.new
-        ≡ analysis_after blocks B.SUBBANDS history.old (pcm_in channel.count channel.index (blocks * B.SUBBANDS) input.now) }
+        ≡ analysis_after blocks.count B.SUBBANDS history.old (pcm_in channel.count channel.index (blocks.count * B.SUBBANDS) input.now) }
     ensures samples { result
-        ≡ samples_array blocks
-        (analyze_blocks blocks B.SUBBANDS history.old (pcm_in channel.count channel.index (blocks * B.SUBBANDS) input.now)) }
+        ≡ samples_array blocks.count
+        (analyze_blocks blocks.count B.SUBBANDS history.old (pcm_in channel.count channel.index (blocks.count * B.SUBBANDS) input.now)) }
 {
     let mut samples = [0i32; 128];
-    for block in 0..blocks {
+    for block in 0..blocks.count {
         let outputs = analyze_block::<B>(history, input, block, channel);
         samples[8 * block..8 * block + 8].copy_from_slice(&outputs);
     }
@@ -70,16 +71,16 @@ fn analyze_channel_by<B: AnalysisBank>(
 pub fn analyze_channel(
     history: &mut [i16; 80],
     input: &[i16],
-    blocks: usize,
+    blocks: BlockCount,
     subbands: usize,
     channel: PcmChannel,
 ) -> [i32; 128]
-    requires { (Bands subbands) × (blocks ≤ 16) × (blocks * subbands * channel.count ≤ length input.now) }
+    requires { (Bands subbands) × (blocks.count * subbands * channel.count ≤ length input.now) }
     ensures history { history.new
-        ≡ analysis_after blocks subbands history.old (pcm_in channel.count channel.index (blocks * subbands) input.now) }
+        ≡ analysis_after blocks.count subbands history.old (pcm_in channel.count channel.index (blocks.count * subbands) input.now) }
     ensures samples { result
-        ≡ samples_array blocks
-        (analyze_blocks blocks subbands history.old (pcm_in channel.count channel.index (blocks * subbands) input.now)) }
+        ≡ samples_array blocks.count
+        (analyze_blocks blocks.count subbands history.old (pcm_in channel.count channel.index (blocks.count * subbands) input.now)) }
 {
     if subbands == 4 {
         return analyze_channel_by::<Four>(history, input, blocks, channel);
@@ -91,17 +92,17 @@ pub fn analyze_channel(
 pub fn analyze_second(
     history: &mut [i16; 80],
     input: &[i16],
-    blocks: usize,
+    blocks: BlockCount,
     subbands: usize,
     channels: usize,
 ) -> [i32; 128]
-    requires { (Bands subbands) × (blocks ≤ 16) × (0 < channels) × (channels ≤ 2) × (blocks * subbands * channels ≤ length input.now) }
+    requires { (Bands subbands) × (0 < channels) × (channels ≤ 2) × (blocks.count * subbands * channels ≤ length input.now) }
     ensures history { history.new
         ≡ (if eqb channels 1 then history.old
-        else analysis_after blocks subbands history.old (pcm_in channels 1 (blocks * subbands) input.now)) }
+        else analysis_after blocks.count subbands history.old (pcm_in channels 1 (blocks.count * subbands) input.now)) }
     ensures samples { result
         ≡ (if eqb channels 1 then replicate 128 (pos 0)
-        else samples_array blocks (analyze_blocks blocks subbands history.old (pcm_in channels 1 (blocks * subbands) input.now))) }
+        else samples_array blocks.count (analyze_blocks blocks.count subbands history.old (pcm_in channels 1 (blocks.count * subbands) input.now))) }
     ensures long { length result ≡ 128 }
 {
     if channels == 1 {

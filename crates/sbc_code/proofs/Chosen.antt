@@ -287,20 +287,22 @@ coding_from flags left-factors right-factors left right =
     record { flags = flags; left_factors = left-factors; right_factors = right-factors; left = left; right = right }
 
 -- a frame whose subbands may be joined, as the code has it: each row and array by those before it
-module _ (p : SbcParameters) (l r : List ℤ) {sums differences left right : List ℤ}
+module _ (p : SbcParameters) (l r : List ℤ) {n : ℕ} {sums differences left right : List ℤ}
     {plain-left plain-right joined-left joined-right flags left-factors right-factors : List ℕ} where
-  pub joint-is : sums ≡ half_sums l r → differences ≡ half_differences l r
-      → plain-left ≡ factors_in p.blocks l → plain-right ≡ factors_in p.blocks r
-      → joined-left ≡ factors_in p.blocks sums → joined-right ≡ factors_in p.blocks differences
+  pub joint-is : n ≡ p.blocks → sums ≡ half_sums l r → differences ≡ half_differences l r
+      → plain-left ≡ factors_in n l → plain-right ≡ factors_in n r
+      → joined-left ≡ factors_in n sums → joined-right ≡ factors_in n differences
       → flags ≡ join_row p.subbands plain-left plain-right joined-left joined-right
       → left-factors ≡ picked_row flags plain-left joined-left → right-factors ≡ picked_row flags plain-right joined-right
-      → left ≡ picked_samples p.blocks flags l sums → right ≡ picked_samples p.blocks flags r differences
+      → left ≡ picked_samples n flags l sums → right ≡ picked_samples n flags r differences
       → coding_from flags left-factors right-factors left right ≡ joint_coding p l r
   unfolding joint_coding
-  joint-is s d pl pr jl jr f lf rf ls rs =
-      let sl : joined-left ≡ factors_in p.blocks (half_sums l r) = jl ∙ ap (factors_in p.blocks) s in
-      let dr : joined-right ≡ factors_in p.blocks (half_differences l r) = jr ∙ ap (factors_in p.blocks) d in
-      let e : flags ≡ join_flags p l r = f ∙ (λ i. join_row p.subbands (pl i) (pr i) (sl i) (dr i)) in
+  joint-is b s d pl pr jl jr f lf rf ls rs =
+      let ol : plain-left ≡ factors_in p.blocks l = pl ∙ (λ i. factors_in (b i) l) in
+      let or : plain-right ≡ factors_in p.blocks r = pr ∙ (λ i. factors_in (b i) r) in
+      let sl : joined-left ≡ factors_in p.blocks (half_sums l r) = jl ∙ (λ i. factors_in (b i) (s i)) in
+      let dr : joined-right ≡ factors_in p.blocks (half_differences l r) = jr ∙ (λ i. factors_in (b i) (d i)) in
+      let e : flags ≡ join_flags p l r = f ∙ (λ i. join_row p.subbands (ol i) (or i) (sl i) (dr i)) in
       (λ i. coding_from flags (lf i) (rf i) (ls i) (rs i))
-      ∙ (λ i. coding_from (e i) (picked_row (e i) (pl i) (sl i)) (picked_row (e i) (pr i) (dr i)) (picked_samples p.blocks (e i) l (s i))
-      (picked_samples p.blocks (e i) r (d i)))
+      ∙ (λ i. coding_from (e i) (picked_row (e i) (ol i) (sl i)) (picked_row (e i) (or i) (dr i)) (picked_samples (b i) (e i) l (s i))
+      (picked_samples (b i) (e i) r (d i)))

@@ -1,21 +1,20 @@
 // What is coded of a frame, of its channels' subband samples: join flags, scale factors and samples.
 #![tactic(auto)]
 
-ghost use Rattle.std.specs.Prelude.{◌≡◌, ◌≤◌};
+ghost use Rattle.std.specs.Prelude.{◌≡◌};
 ghost use Rattle.sbc_factors.specs.Factors.{factors_in};
 ghost use Rattle.sbc_join.specs.Joining.{picked_row};
 ghost use Rattle.sbc_code.specs.Coding.{coded, plain_coding, joint_coding, coding_of};
 
 use sbc_factors::factors_of;
-use sbc_frame::{CodedFrame, Factors};
+use sbc_frame::{BlockCount, CodedFrame, Factors};
 use sbc_join::{half_differences, half_sums, join_flags, pick_row, pick_samples};
 use sbc_parameters::AcceptedSet;
 
 // The scale factors of two channels with these samples.
-fn both_factors(left: &[i32; 128], right: &[i32; 128], blocks: usize) -> Factors
-    requires { blocks ≤ 16 }
-    ensures left { result.left ≡ factors_in blocks left.now }
-    ensures right { result.right ≡ factors_in blocks right.now }
+fn both_factors(left: &[i32; 128], right: &[i32; 128], blocks: BlockCount) -> Factors
+    ensures left { result.left ≡ factors_in blocks.count left.now }
+    ensures right { result.right ≡ factors_in blocks.count right.now }
 {
     Factors {
         left: factors_of(left, blocks),
@@ -38,7 +37,7 @@ fn pick_factors(flags: &[u8; 8], plain: &Factors, joined: &Factors) -> Factors
 fn code_plain(accepted: AcceptedSet, left: &[i32; 128], right: &[i32; 128]) -> CodedFrame
     ensures { coded result ≡ plain_coding accepted.set left.now right.now }
 {
-    let blocks = accepted.set.blocks as usize;
+    let blocks = BlockCount::of(accepted);
     CodedFrame {
         flags: [0; 8],
         factors: both_factors(left, right, blocks),
@@ -51,13 +50,12 @@ fn code_plain(accepted: AcceptedSet, left: &[i32; 128], right: &[i32; 128]) -> C
 fn code_joint(accepted: AcceptedSet, left: &[i32; 128], right: &[i32; 128]) -> CodedFrame
     ensures { coded result ≡ joint_coding accepted.set left.now right.now }
 {
-    let set = accepted.set;
-    let blocks = set.blocks as usize;
+    let blocks = BlockCount::of(accepted);
     let sums = half_sums(left, right);
     let differences = half_differences(left, right);
     let plain = both_factors(left, right, blocks);
     let joined = both_factors(&sums, &differences, blocks);
-    let flags = join_flags(&plain, &joined, set.subbands as usize);
+    let flags = join_flags(&plain, &joined, accepted.set.subbands as usize);
     let mut coded_left = *left;
     let mut coded_right = *right;
     pick_samples(&mut coded_left, &sums, &flags, blocks);

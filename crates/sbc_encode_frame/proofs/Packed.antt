@@ -234,42 +234,44 @@ coding-packed p a samples l r given k e =
     ap (λ (k : Coded). coding_bytes p k.flags k.left_factors k.right_factors k.left k.right) e
     ∙ (let rows = coding-rows p l r in frame-packed p a samples _ _ _ _ _ (coding-in p a samples l r given) rows.0 rows.1)
 
--- ---- a frame from PCM: the two channels' histories and samples, where C is the number of channels
-module _ (p : SbcParameters) (C : ℕ) (e : C ≡ channels p) (l r input : List ℤ) where
+-- ---- a frame from PCM: the two channels' histories and samples, where C is the number of channels and n that of blocks
+module _ (p : SbcParameters) (C n : ℕ) (e : C ≡ channels p) (k : n ≡ p.blocks) (l r input : List ℤ) where
   abbrev pcm : ℕ → List ℤ
-  pcm c = pcm_in C c (p.blocks * p.subbands) input
+  pcm c = pcm_in C c (n * p.subbands) input
 
   pcm-is : (c : ℕ) → pcm c ≡ channel_pcm p input c
   unfolding channel_pcm samples_per_channel
-  pcm-is c = ap (λ (n : ℕ). pcm_in n c (p.blocks * p.subbands) input) e
+  pcm-is c = λ i. pcm_in (e i) c (k i * p.subbands) input
+
+  after-is : (c : ℕ) (x : List ℤ) → analysis_after n p.subbands x (pcm c) ≡ analysis_after p.blocks p.subbands x (channel_pcm p input c)
+  after-is c x = λ i. analysis_after (k i) p.subbands x (pcm-is c i)
 
   -- the histories after it
-  pub histories-analyzed : (l' r' : List ℤ) → l' ≡ analysis_after p.blocks p.subbands l (pcm 0)
-      → r' ≡ (if eqb C 1 then r else analysis_after p.blocks p.subbands r (pcm 1)) → l' ∷ r' ∷ [] ≡ analysis_histories p (l ∷ r ∷ []) input
+  pub histories-analyzed : (l' r' : List ℤ) → l' ≡ analysis_after n p.subbands l (pcm 0)
+      → r' ≡ (if eqb C 1 then r else analysis_after n p.subbands r (pcm 1)) → l' ∷ r' ∷ [] ≡ analysis_histories p (l ∷ r ∷ []) input
   unfolding analysis_histories build collect
   histories-analyzed l' r' el er =
       ap₂ (λ (a b : List ℤ). a ∷ b ∷ [])
-      (el ∙ ap (analysis_after p.blocks p.subbands l) (pcm-is 0) ∙ sym (rw (lt-ltb 0 (channels p) (channels-range p).0)))
+      (el ∙ after-is 0 l ∙ sym (rw (lt-ltb 0 (channels p) (channels-range p).0)))
       (go (ltb 1 (channels p)) refl)
     where
       go : (t : Bool) → ltb 1 (channels p) ≡ t
           → r' ≡ (if ltb 1 (channels p) then analysis_after p.blocks p.subbands r (channel_pcm p input 1) else r)
-      go true h =
-          rw h
-          (er ∙ rw (ne_eqb C 1 (λ q. omega (arith, q, e, ltb-true 1 (channels p) h))) (ap (analysis_after p.blocks p.subbands r) (pcm-is 1)))
+      go true h = rw h (er ∙ rw (ne_eqb C 1 (λ q. omega (arith, q, e, ltb-true 1 (channels p) h))) (after-is 1 r))
       go false h = rw h (er ∙ rw (eq-eqb C 1 (omega (arith, e, ltb-false 1 (channels p) h, (channels-range p).0))))
 
+  array-holds-it : (c : ℕ) (x xs : List ℤ) → p.blocks ≤ 16 → xs ≡ samples_array n (analyze_blocks n p.subbands x (pcm c)) → (b s : ℕ)
+      → b < p.blocks → s < 8 → sample_in xs b s ≡ sample_at (analyze_blocks p.blocks p.subbands x (channel_pcm p input c)) b s
+  array-holds-it c x xs m h b s hb hs =
+      ap (λ (ys : List ℤ). sample_in ys b s) (h ∙ (λ i. samples_array (k i) (analyze_blocks (k i) p.subbands x (pcm-is c i))))
+      ∙ array-holds p.blocks (analyze_blocks p.blocks p.subbands x (channel_pcm p input c)) m b s hb hs
+
   -- the samples of the channels
-  pub channels-analyzed : p.blocks ≤ 16 → (left right : List ℤ) → left ≡ samples_array p.blocks (analyze_blocks p.blocks p.subbands l (pcm 0))
-      → right ≡ (if eqb C 1 then replicate 128 (pos 0) else samples_array p.blocks (analyze_blocks p.blocks p.subbands r (pcm 1)))
+  pub channels-analyzed : p.blocks ≤ 16 → (left right : List ℤ) → left ≡ samples_array n (analyze_blocks n p.subbands l (pcm 0))
+      → right ≡ (if eqb C 1 then replicate 128 (pos 0) else samples_array n (analyze_blocks n p.subbands r (pcm 1)))
       → ChannelsIn p (channel_samples p (l ∷ r ∷ []) input) left right
   unfolding channel_samples
-  channels-analyzed m left right hl hr zero hc b s hb hs =
-      ap (λ (xs : List ℤ). sample_in xs b s) hl ∙ array-holds p.blocks (analyze_blocks p.blocks p.subbands l (pcm 0)) m b s hb hs
-      ∙ ap (λ (x : List ℤ). sample_at (analyze_blocks p.blocks p.subbands l x) b s) (pcm-is 0)
+  channels-analyzed m left right hl hr zero hc b s hb hs = array-holds-it 0 l left m hl b s hb hs
   channels-analyzed m left right hl hr (suc zero) hc b s hb hs =
-      let there : right ≡ samples_array p.blocks (analyze_blocks p.blocks p.subbands r (pcm 1)) = hr ∙ rw (ne_eqb C 1 (λ q. omega (arith, q, e))) in
-      ap (λ (xs : List ℤ). sample_in xs b s) there
-      ∙ array-holds p.blocks (analyze_blocks p.blocks p.subbands r (pcm 1)) m b s hb hs
-      ∙ ap (λ (x : List ℤ). sample_at (analyze_blocks p.blocks p.subbands r x) b s) (pcm-is 1)
+      array-holds-it 1 r right m (hr ∙ rw (ne_eqb C 1 (λ q. omega (arith, q, e)))) b s hb hs
   channels-analyzed m left right hl hr (suc (suc c)) hc b s hb hs = absurd (omega (arith, (channels-range p).1))

@@ -9,6 +9,7 @@ ghost use Rattle.sbc_frame.specs.Encoding.{encode_fields, analysis_histories};
 use sbc_analyze_frame::{analyze_channel, analyze_second};
 use sbc_code::code;
 use sbc_filterbank::PcmChannel;
+use sbc_frame::BlockCount;
 use sbc_parameters::AcceptedSet;
 use sbc_write_frame::write_frame;
 
@@ -25,7 +26,7 @@ pub fn encode_frame(
     ensures frame { frame.new ≡ pack accepted.set (encode_fields accepted.set (left_history.old ∷ right_history.old ∷ []) input.now) }
 {
     let set = accepted.set;
-    let blocks = set.blocks as usize;
+    let blocks = BlockCount::of(accepted);
     let subbands = set.subbands as usize;
     let channels = set.channels() as usize;
     let first = PcmChannel {

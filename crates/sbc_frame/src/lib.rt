@@ -5,6 +5,26 @@
 ghost use Rattle.std.specs.Prelude.{ℕ, ◌≡◌, ◌≤◌, length};
 ghost use Rattle.sbc_frame.specs.Arrays.{entry};
 
+use sbc_parameters::AcceptedSet;
+
+// How many blocks a frame has.
+#[derive(Clone, Copy)]
+pub struct BlockCount {
+    pub count: usize,
+    pub ghost at_most_16: { count ≤ 16 },
+}
+
+impl BlockCount {
+    // Those that an accepted set says.
+    pub fn of(accepted: AcceptedSet) -> BlockCount
+        ensures { result.count ≡ accepted.set.blocks }
+    {
+        BlockCount {
+            count: accepted.set.blocks as usize,
+        }
+    }
+}
+
 // The scale factors of both channels, by subband. Where a frame has one channel, the second's are 0.
 #[derive(Clone, Copy)]
 pub struct Factors {

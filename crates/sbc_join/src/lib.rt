@@ -1,12 +1,12 @@
 // Joint stereo: which subbands are coded as the sum and the difference of the channels.
 #![tactic(auto)]
 
-ghost use Rattle.std.specs.Prelude.{◌≡◌, ℕ, ◌+◌, ◌≤◌, ◌<◌, ◌+ℤ◌, ◌-ℤ◌};
+ghost use Rattle.std.specs.Prelude.{◌≡◌, ℕ, ◌+◌, ◌<◌, ◌+ℤ◌, ◌-ℤ◌};
 ghost use Rattle.laws.specs.Integers.{floor_div};
 ghost use Rattle.sbc_frame.specs.Arrays.{sample_in, entry, with_subband};
 ghost use Rattle.sbc_join.specs.Joining.{half_sums, half_differences, join_row, picked_row, picked_samples};
 
-use sbc_frame::Factors;
+use sbc_frame::{BlockCount, Factors};
 use std::array;
 
 // Half the one and half the other, added.
@@ -54,11 +54,11 @@ pub fn pick_row(flags: &[u8; 8], plain: &[u8; 8], joined: &[u8; 8]) -> [u8; 8]
 }
 
 // The joined samples of one subband in place of its own.
-fn pick_subband(samples: &mut [i32; 128], joined: &[i32; 128], subband: usize, blocks: usize)
-    requires { (subband < 8) × (blocks ≤ 16) }
-    ensures { samples.new ≡ with_subband blocks subband (λ b. sample_in joined.now b subband) samples.old }
+fn pick_subband(samples: &mut [i32; 128], joined: &[i32; 128], subband: usize, blocks: BlockCount)
+    requires { subband < 8 }
+    ensures { samples.new ≡ with_subband blocks.count subband (λ b. sample_in joined.now b subband) samples.old }
 {
-    for block in 0..blocks {
+    for block in 0..blocks.count {
         samples[8 * block + subband] = joined[8 * block + subband];
     }
 }
@@ -66,9 +66,8 @@ fn pick_subband(samples: &mut [i32; 128], joined: &[i32; 128], subband: usize, b
 // The joined samples where a flag is set.
 // Kept: loops by subband and block. As an array made of each place, as in `pick_row`, it takes three times the instructions (measured in
 // Rust: 1,157 against 347 for four flags), since every place then asks for its flag and its block.
-pub fn pick_samples(samples: &mut [i32; 128], joined: &[i32; 128], flags: &[u8; 8], blocks: usize)
-    requires { blocks ≤ 16 }
-    ensures { samples.new ≡ picked_samples blocks flags.now samples.old joined.now }
+pub fn pick_samples(samples: &mut [i32; 128], joined: &[i32; 128], flags: &[u8; 8], blocks: BlockCount)
+    ensures { samples.new ≡ picked_samples blocks.count flags.now samples.old joined.now }
 {
     for subband in 0..8 {
         if flags[subband] == 1 {

@@ -3,6 +3,7 @@
 -- Assumes nothing.
 use Prim.Native.Nat.{ℕ, zero, suc, ◌+◌, ◌*◌, ◌^◌, ◌≤◌, ◌<◌}
 use mathlib.Core.Path.{◌≡◌, refl, sym, ap, ap₂, ◌∙◌, subst}
+use mathlib.Core.Logic.{inl, inr}
 use mathlib.Core.List.{List, [], ◌∷◌, ◌++◌}
 use native.Mathlib.Nat.{not-suc-le-zero, le_of_suc-le-suc, zero-mul, suc-mul}
 use native.Mathlib.Numerals.{add-one}
@@ -18,7 +19,9 @@ use Rattle.laws.proofs.Lists.{length-build, get_or-build, build-ext}
 use Rattle.laws.proofs.Arrays.{within-up_to}
 use Rattle.laws.proofs.Sums.{sum_z-ext}
 use Rattle.sbc_parameters.specs.declared.SbcParameters.{SbcParameters}
+use Rattle.sbc_parameters.specs.declared.accepted_set.AcceptedSet.{AcceptedSet}
 use Rattle.sbc_parameters.specs.Parameters.{channels}
+use Rattle.sbc_parameters.proofs.Accepted.{subbands-cases}
 use Rattle.sbc_parameters.specs.Sizes.{samples_per_channel, frame_samples}
 use Rattle.sbc_filterbank.specs.Subbands.{Bands, padded}
 use Rattle.sbc_filterbank.specs.Synthesis.{synthesis_cosine, modulated_at, modulated, synthesis_outputs}
@@ -29,7 +32,7 @@ use Rattle.sbc_filterbank.proofs.Lengths.{length-ring-pushed}
 use Rattle.sbc_filterbank.proofs.Ring.{outputs-push}
 use Rattle.sbc_frame.specs.Channels.{interleave, no_synthesis, synthesized, synthesize, synthesize_blocks, synthesis_after}
 use Rattle.sbc_frame.specs.Arrays.{sample_in}
-use Rattle.sbc_frame.proofs.Blocks.{synthesis-after-next, synthesize-next, length-synthesize_blocks}
+use Rattle.sbc_frame.proofs.Blocks.{eight, synthesis-after-next, synthesize-next, length-synthesize_blocks}
 use Rattle.sbc_play.specs.Playing.{blocks_in, placed, history_after, histories_after}
 use Rattle.sbc_play.proofs.Weaving.{placed-none, placed-ext, placed-behind, woven, woven-none, woven-is}
 
@@ -136,6 +139,10 @@ module _ (S : ℕ) (h : Synthesis) (xs : List ℤ) where
         ∙ ap (λ (m : ℕ). placed C c 0 m (pcm_of (n + 1)) output) more
 
 -- ---- the channels of a frame
+-- a set that does not have 4 subbands has 8
+pub eight-bands : (q : AcceptedSet) → (q.set.subbands ≡ 4 → ⊥) → q.set.subbands ≡ 8
+eight-bands q = eight (subbands-cases Bands q.set q.is_accepted (inl refl) (inr refl))
+
 -- what stands for a missing element does not matter where there is one
 get_d_any : {A : Type 0} (l : List A) (i : ℕ) (d e : A) → i < length l → get_or l i d ≡ get_or l i e
 get_d_any [] i d e h = absurd (not-suc-le-zero h)

@@ -3,7 +3,6 @@
 
 ghost use Rattle.std.specs.Prelude.{◌≡◌, [], ◌∷◌, ◌++◌, ℕ, ◌+◌, ◌*◌, ◌^◌, ◌≤◌, ◌<◌, length, get_or, drop, pos, nat_abs};
 ghost use Rattle.laws.specs.Lists.{build};
-ghost use Rattle.sbc_filterbank.specs.Subbands.{Bands};
 ghost use Rattle.sbc_parameters.specs.Parameters.{channels};
 ghost use Rattle.sbc_parameters.specs.Sizes.{frame_samples};
 ghost use Rattle.sbc_frame.specs.Channels.{interleave, no_synthesis, synthesized, synthesize, synthesize_blocks, synthesis_after};
@@ -11,6 +10,7 @@ ghost use Rattle.sbc_frame.specs.Arrays.{sample_in, Small};
 ghost use Rattle.sbc_play.specs.Playing.{blocks_in, placed, histories_after};
 
 use sbc_filterbank::{PcmChannel, Synthesis};
+use sbc_frame::BlockCount;
 use sbc_modulate::SynthesisBank;
 use sbc_parameters::AcceptedSet;
 use sbc_synthesize::synthesize_by;
@@ -63,17 +63,17 @@ fn play_channel_by<B: SynthesisBank>(
     history: Synthesis,
     samples: &[i32; 128],
     output: &mut [i16],
-    blocks: usize,
+    blocks: BlockCount,
     channel: PcmChannel,
 ) -> Synthesis
-    requires { (blocks ≤ 16) × (blocks * B.SUBBANDS * channel.count ≤ length output.old) × (Small blocks (2 ^ 28) samples.now) }
-    ensures history { result ≡ synthesis_after B.SUBBANDS history (blocks_in blocks B.SUBBANDS samples.now) }
+    requires { (blocks.count * B.SUBBANDS * channel.count ≤ length output.old) × (Small blocks.count (2 ^ 28) samples.now) }
+    ensures history { result ≡ synthesis_after B.SUBBANDS history (blocks_in blocks.count B.SUBBANDS samples.now) }
     ensures output { output.new
-        ≡ placed channel.count channel.index 0 (blocks * B.SUBBANDS)
-        (λ j. get_or (synthesize_blocks B.SUBBANDS history (blocks_in blocks B.SUBBANDS samples.now)) j (pos 0)) output.old }
+        ≡ placed channel.count channel.index 0 (blocks.count * B.SUBBANDS)
+        (λ j. get_or (synthesize_blocks B.SUBBANDS history (blocks_in blocks.count B.SUBBANDS samples.now)) j (pos 0)) output.old }
 {
     let mut after = history;
-    for block in 0..blocks {
+    for block in 0..blocks.count {
         play_block::<B>(&mut after, output, samples, block, channel);
     }
     after
@@ -81,21 +81,23 @@ fn play_channel_by<B: SynthesisBank>(
 
 // All blocks of a channel.
 fn play_channel(
+    accepted: AcceptedSet,
     history: Synthesis,
     samples: &[i32; 128],
     output: &mut [i16],
-    blocks: usize,
-    subbands: usize,
     channel: PcmChannel,
 ) -> Synthesis
-    requires { (Bands subbands) × (blocks ≤ 16) × (blocks * subbands * channel.count ≤ length output.old)
-        × (Small blocks (2 ^ 28) samples.now) }
-    ensures history { result ≡ synthesis_after subbands history (blocks_in blocks subbands samples.now) }
-    ensures output { output.new
-        ≡ placed channel.count channel.index 0 (blocks * subbands)
-        (λ j. get_or (synthesize_blocks subbands history (blocks_in blocks subbands samples.now)) j (pos 0)) output.old }
+    requires { let p = accepted.set in
+        (p.blocks * p.subbands * channel.count ≤ length output.old) × (Small p.blocks (2 ^ 28) samples.now) }
+    ensures history { let p = accepted.set in
+        result ≡ synthesis_after p.subbands history (blocks_in p.blocks p.subbands samples.now) }
+    ensures output { let p = accepted.set in
+        output.new
+        ≡ placed channel.count channel.index 0 (p.blocks * p.subbands)
+        (λ j. get_or (synthesize_blocks p.subbands history (blocks_in p.blocks p.subbands samples.now)) j (pos 0)) output.old }
 {
-    if subbands == 4 {
+    let blocks = BlockCount::of(accepted);
+    if accepted.set.subbands == 4 {
         return play_channel_by::<Four>(history, samples, output, blocks, channel);
     }
     play_channel_by::<Eight>(history, samples, output, blocks, channel)
@@ -117,15 +119,12 @@ pub fn play_frame(
         (blocks_in accepted.set.blocks accepted.set.subbands (get_or (left.now ∷ right.now ∷ []) c [])))
         ++ drop (frame_samples accepted.set) output.old }
 {
-    let set = accepted.set;
-    let blocks = set.blocks as usize;
-    let subbands = set.subbands as usize;
-    let channels = set.channels() as usize;
+    let channels = accepted.set.channels() as usize;
     let one = PcmChannel {
         index: 0,
         count: channels,
     };
-    let first = play_channel(histories[0], left, output, blocks, subbands, one);
+    let first = play_channel(accepted, histories[0], left, output, one);
     if channels == 1 {
         return [first, histories[1]];
     }
@@ -133,6 +132,6 @@ pub fn play_frame(
         index: 1,
         count: channels,
     };
-    let second = play_channel(histories[1], right, output, blocks, subbands, other);
+    let second = play_channel(accepted, histories[1], right, output, other);
     [first, second]
 }

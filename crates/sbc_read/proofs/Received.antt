@@ -1,7 +1,7 @@
 -- What the code reads of a received frame, in rows of eight and by running positions, is what `unpack` reads, and it is small.
 -- Assumes nothing.
 use Prim.Native.Nat.{ℕ, zero, suc, ◌+◌, ◌-◌, ◌*◌, ◌%◌, ◌^◌, ◌≤◌, ◌<◌}
-use mathlib.Core.Path.{◌≡◌, refl, sym, ap, ap₂, ◌∙◌, subst}
+use mathlib.Core.Path.{◌≡◌, refl, sym, ap, ap₂, ◌∙◌, subst, subst₂}
 use mathlib.Core.Bool.{Bool, true, false, false≢true}
 use mathlib.Core.List.{List, [], ◌∷◌, ◌++◌}
 use native.Mathlib.Nat.{suc-mul, mul-le-mul_right}
@@ -375,7 +375,7 @@ module _ (p : SbcParameters) (a : accepted p ≡ true) (frame : List ℕ) (long 
         (λ _. omega (arith, hr b s hb hs)))
 
 -- ---- what the code has when it comes to the values
-pub record Got (p : SbcParameters) (frame bytes left right : List ℕ) (table : List (List ℕ)) (side second bits : ℕ) : Type 0 where
+pub record Got (p : SbcParameters) (frame bytes left right : List ℕ) (table : List (List ℕ)) (side second bits blocks : ℕ) : Type 0 where
   pub good : accepted p ≡ true
   pub long : length frame ≡ frame_length p
   pub bytes-are : bytes ≡ frame ++ replicate (528 - length frame) 0
@@ -386,6 +386,7 @@ pub record Got (p : SbcParameters) (frame bytes left right : List ℕ) (table : 
   pub second_is : second ≡ total 8 (entry (get_or table 0 []))
   pub bits_are : bits ≡ block_bits p
   pub bits-high : bits ≤ 510
+  pub blocks_are : blocks ≡ p.blocks
 
 -- the widths of a table
 pub widths_16 : (p : SbcParameters) (rows : List (List ℕ)) {table : List (List ℕ)} → table ≡ allocation_table p rows → (c s : ℕ) → entry (get_or table c []) s ≤ 16
@@ -394,11 +395,11 @@ widths_16 p rows e c s = rw e (table-16 p rows c s)
 -- what a channel is read from
 abbrev pub Asks : ℕ → List ℕ → List ℕ → List ℕ → ℕ → ℕ → Type 0
 Asks blocks bytes widths factors position bits =
-    (length bytes ≡ 528) × ((s : ℕ) → entry widths s ≤ 16) × ((s : ℕ) → entry factors s ≤ 15) × (0 < blocks) × (blocks ≤ 16) × (bits ≤ 510)
+    (length bytes ≡ 528) × ((s : ℕ) → entry widths s ≤ 16) × ((s : ℕ) → entry factors s ≤ 15) × (0 < blocks) × (bits ≤ 510)
     × ((b : ℕ) → b < blocks → position + b * bits + total 8 (entry widths) ≤ 4192)
 
-module _ {p : SbcParameters} {frame bytes left right : List ℕ} {table : List (List ℕ)} {side second bits : ℕ}
-    (g : Got p frame bytes left right table side second bits) where
+module _ {p : SbcParameters} {frame bytes left right : List ℕ} {table : List (List ℕ)} {side second bits blocks : ℕ}
+    (g : Got p frame bytes left right table side second bits blocks) where
   left-row : left ≡ left_factors p (bytes_of p g.good frame g.long)
   left-row = g.left_is ∙ ap (left_factors p) g.bytes-are
 
@@ -418,23 +419,22 @@ module _ {p : SbcParameters} {frame bytes left right : List ℕ} {table : List (
   second-start = ap₂ (λ (n k : ℕ). 32 + n + k) g.side-is (g.second_is ∙ ap (λ (w : List ℕ). total 8 (entry w)) (widths-are 0))
 
   asks : (c : ℕ) → c < 2 → (widths factors : List ℕ) (position : ℕ) → widths ≡ width_row p g.good frame g.long c
-      → ((s : ℕ) → entry factors s ≤ 15) → position ≡ start p g.good frame g.long c → Asks p.blocks bytes widths factors position bits
+      → ((s : ℕ) → entry factors s ≤ 15) → position ≡ start p g.good frame g.long c → Asks blocks bytes widths factors position bits
   asks c hc widths factors position ew small es = (
     ap length g.bytes-are ∙ length-bytes p g.good frame g.long,
     λ s. rw ew (table-16 p (factor_rows p g.good frame g.long) c s),
     small,
-    omega (arith, (ranges p g.good).blocks-low),
-    (ranges p g.good).blocks-high,
+    omega (arith, g.blocks_are, (ranges p g.good).blocks-low),
     g.bits-high,
-    λ b hb. rw (ew, es, g.bits_are) (start-inside p g.good frame g.long c b hc hb),
+    λ b hb. rw (ew, es, g.bits_are) (start-inside p g.good frame g.long c b hc (omega (arith, g.blocks_are))),
   )
 
-  pub left-asks : Asks p.blocks bytes (get_or table 0 []) left (32 + side) bits
+  pub left-asks : Asks blocks bytes (get_or table 0 []) left (32 + side) bits
   left-asks =
       asks 0 (omega arith) (get_or table 0 []) left (32 + side) (widths-are 0)
       (λ s. rw g.left_is (row_small bytes (32 + join_count p) p.subbands s (row-sizes p g.good).subbands-high)) first-start
 
-  pub right-asks : Asks p.blocks bytes (get_or table 1 []) right (32 + side + second) bits
+  pub right-asks : Asks blocks bytes (get_or table 1 []) right (32 + side + second) bits
   right-asks =
       asks 1 (omega arith) (get_or table 1 []) right (32 + side + second) (widths-are 1)
       (λ s. rw g.right_is
@@ -442,19 +442,19 @@ module _ {p : SbcParameters} {frame bytes left right : List ℕ} {table : List (
       second-start
 
   -- what is read of the channels
-  module _ (l₀ r₀ : List ℤ) (hl : l₀ ≡ samples_array p.blocks (channel_values bytes (get_or table 0 []) left (32 + side) bits p.blocks))
-      (hr : r₀ ≡ samples_array p.blocks (channel_values bytes (get_or table 1 []) right (32 + side + second) bits p.blocks)) where
+  module _ (l₀ r₀ : List ℤ) (hl : l₀ ≡ samples_array blocks (channel_values bytes (get_or table 0 []) left (32 + side) bits blocks))
+      (hr : r₀ ≡ samples_array blocks (channel_values bytes (get_or table 1 []) right (32 + side + second) bits blocks)) where
     left_in : l₀ ≡ read_array p g.good frame g.long 0
     left_in =
         hl
-        ∙ (λ i. samples_array p.blocks
-        (channel_values (g.bytes-are i) (widths-are 0 i) (left-row i) (first-start i) (g.bits_are i) p.blocks))
+        ∙ (λ i. samples_array (g.blocks_are i)
+        (channel_values (g.bytes-are i) (widths-are 0 i) (left-row i) (first-start i) (g.bits_are i) (g.blocks_are i)))
 
     right-in : r₀ ≡ read_array p g.good frame g.long 1
     right-in =
         hr
-        ∙ (λ i. samples_array p.blocks
-        (channel_values (g.bytes-are i) (widths-are 1 i) (right-row i) (second-start i) (g.bits_are i) p.blocks))
+        ∙ (λ i. samples_array (g.blocks_are i)
+        (channel_values (g.bytes-are i) (widths-are 1 i) (right-row i) (second-start i) (g.bits_are i) (g.blocks_are i)))
 
     -- it is small
     first_small : Small p.blocks (2 ^ 27) (read_array p g.good frame g.long 0)
@@ -468,27 +468,28 @@ module _ {p : SbcParameters} {frame bytes left right : List ℕ} {table : List (
         (λ s. row_small (bytes_of p g.good frame g.long) (32 + join_count p + 4 * p.subbands) (p.subbands * (channels p - 1)) s
         (row-sizes p g.good).others-high)
 
-    pub left-small : Small p.blocks (2 ^ 27) l₀
-    left-small = subst (Small p.blocks (2 ^ 27)) (sym left_in) first_small
+    pub left-small : Small blocks (2 ^ 27) l₀
+    left-small = subst₂ (λ (n : ℕ) (xs : List ℤ). Small n (2 ^ 27) xs) (sym g.blocks_are) (sym left_in) first_small
 
-    pub right-small : Small p.blocks (2 ^ 27) r₀
-    right-small = subst (Small p.blocks (2 ^ 27)) (sym right-in) second-small
+    pub right-small : Small blocks (2 ^ 27) r₀
+    right-small = subst₂ (λ (n : ℕ) (xs : List ℤ). Small n (2 ^ 27) xs) (sym g.blocks_are) (sym right-in) second-small
 
     -- and after sum and difference it is what is decoded
     module _ (flags : List ℕ) (flags-are : flags ≡ flag_row p bytes) (l r : List ℤ)
-        (sum : l ≡ with_flagged p.blocks flags (λ b s. sample_in l₀ b s +ℤ sample_in r₀ b s) l₀)
-        (difference : r ≡ with_flagged p.blocks flags (λ b s. sample_in l₀ b s -ℤ sample_in r₀ b s) r₀) where
+        (sum : l ≡ with_flagged blocks flags (λ b s. sample_in l₀ b s +ℤ sample_in r₀ b s) l₀)
+        (difference : r ≡ with_flagged blocks flags (λ b s. sample_in l₀ b s -ℤ sample_in r₀ b s) r₀) where
       flag-row : flags ≡ flag_row p (bytes_of p g.good frame g.long)
       flag-row = flags-are ∙ ap (flag_row p) g.bytes-are
 
       sum-in : l ≡ sum_array p g.good frame g.long
       sum-in =
-          sum ∙ (λ i. with_flagged p.blocks (flag-row i) (λ b s. sample_in (left_in i) b s +ℤ sample_in (right-in i) b s) (left_in i))
+          sum
+          ∙ (λ i. with_flagged (g.blocks_are i) (flag-row i) (λ b s. sample_in (left_in i) b s +ℤ sample_in (right-in i) b s) (left_in i))
 
       difference-in : r ≡ difference_array p g.good frame g.long
       difference-in =
           difference
-          ∙ (λ i. with_flagged p.blocks (flag-row i) (λ b s. sample_in (left_in i) b s -ℤ sample_in (right-in i) b s) (right-in i))
+          ∙ (λ i. with_flagged (g.blocks_are i) (flag-row i) (λ b s. sample_in (left_in i) b s -ℤ sample_in (right-in i) b s) (right-in i))
 
       pub left-frame : l ≡ channel_array p (unpack p frame) 0
       left-frame = sum-in ∙ sum_is p g.good frame g.long

@@ -11,7 +11,7 @@ ghost use Rattle.sbc_frame.specs.Arrays.{with_subband, sample_in, samples_array,
 ghost use Rattle.sbc_read.specs.Reading.{row_at, flag_row, left_factors, right_factors, value_of, channel_values, channel_array};
 
 use sbc_allocation::allocate;
-use sbc_frame::{Factors, Quantization};
+use sbc_frame::{BlockCount, Factors, Quantization};
 use sbc_parameters::AcceptedSet;
 use sbc_quantizer::Dequantizer;
 
@@ -36,11 +36,10 @@ struct Values {
     quantization: Quantization,
     position: usize,
     block_bits: usize,
-    blocks: usize,
-    ghost some_blocks: { 0 < blocks },
-    ghost few_blocks: { blocks ≤ 16 },
+    blocks: BlockCount,
+    ghost some_blocks: { 0 < blocks.count },
     ghost few_bits: { block_bits ≤ 510 },
-    ghost room: { (b : ℕ) → b < blocks → position + b * block_bits + total 8 (entry quantization.widths) ≤ 4192 },
+    ghost room: { (b : ℕ) → b < blocks.count → position + b * block_bits + total 8 (entry quantization.widths) ≤ 4192 },
 }
 
 // The frame with zeros behind it, so that four bytes stand from each of its bytes on.
@@ -90,13 +89,13 @@ impl Values {
         requires subband { subband < 8 }
         requires some { 0 < entry self.now.quantization.widths subband }
         requires place { at ≡ self.now.position + total subband (entry self.now.quantization.widths) }
-        ensures { samples.new ≡ with_subband self.now.blocks subband (value_of bytes.now at self.now.block_bits (entry self.now.quantization.widths subband) (entry self.now.quantization.factors subband)) samples.old }
+        ensures { samples.new ≡ with_subband self.now.blocks.count subband (value_of bytes.now at self.now.block_bits (entry self.now.quantization.widths subband) (entry self.now.quantization.factors subband)) samples.old }
     {
         let width = self.quantization.widths[subband];
         let step = self.block_bits;
         let dequantizer = Dequantizer::new(width, self.quantization.factors[subband]);
         let mut next = at;
-        for block in 0..self.blocks {
+        for block in 0..self.blocks.count {
             samples[8 * block + subband] = dequantizer.apply(number_at(bytes, next, width as u32));
             next += step;
         }
@@ -104,7 +103,7 @@ impl Values {
 
     // The samples of the channel. A subband of 0 bits has no values, and its samples are 0.
     fn read(&self, bytes: &[u8; 528]) -> [i32; 128]
-        ensures { result ≡ samples_array self.now.blocks (channel_values bytes.now self.now.quantization.widths self.now.quantization.factors self.now.position self.now.block_bits self.now.blocks) }
+        ensures { result ≡ samples_array self.now.blocks.count (channel_values bytes.now self.now.quantization.widths self.now.quantization.factors self.now.position self.now.block_bits self.now.blocks.count) }
     {
         let mut samples = [0; 128];
         let mut at = self.position;
@@ -131,11 +130,11 @@ fn row_total(row: &[u8; 8]) -> usize
 }
 
 // Sum and difference of one subband, in place of left and right.
-fn join_subband(left: &mut [i32; 128], right: &mut [i32; 128], subband: usize, blocks: usize)
-    requires { (subband < 8) × (blocks ≤ 16) × ((b : ℕ) → b < blocks → (nat_abs (sample_in left.old b subband) ≤ 2 ^ 27) × (nat_abs (sample_in right.old b subband) ≤ 2 ^ 27)) }
-    ensures { (left.new ≡ with_subband blocks subband (λ b. sample_in left.old b subband +ℤ sample_in right.old b subband) left.old) × (right.new ≡ with_subband blocks subband (λ b. sample_in left.old b subband -ℤ sample_in right.old b subband) right.old) }
+fn join_subband(left: &mut [i32; 128], right: &mut [i32; 128], subband: usize, blocks: BlockCount)
+    requires { (subband < 8) × ((b : ℕ) → b < blocks.count → (nat_abs (sample_in left.old b subband) ≤ 2 ^ 27) × (nat_abs (sample_in right.old b subband) ≤ 2 ^ 27)) }
+    ensures { (left.new ≡ with_subband blocks.count subband (λ b. sample_in left.old b subband +ℤ sample_in right.old b subband) left.old) × (right.new ≡ with_subband blocks.count subband (λ b. sample_in left.old b subband -ℤ sample_in right.old b subband) right.old) }
 {
-    for block in 0..blocks {
+    for block in 0..blocks.count {
         let at = 8 * block + subband;
         let l = left[at];
         let r = right[at];
@@ -145,10 +144,10 @@ fn join_subband(left: &mut [i32; 128], right: &mut [i32; 128], subband: usize, b
 }
 
 // Sum and difference for every join flag that is set.
-fn join(left: &mut [i32; 128], right: &mut [i32; 128], flags: &[u8; 8], blocks: usize)
-    requires { (blocks ≤ 16) × (Small blocks (2 ^ 27) left.old) × (Small blocks (2 ^ 27) right.old) }
-    ensures left { left.new ≡ with_flagged blocks flags.now (λ b s. sample_in left.old b s +ℤ sample_in right.old b s) left.old }
-    ensures right { right.new ≡ with_flagged blocks flags.now (λ b s. sample_in left.old b s -ℤ sample_in right.old b s) right.old }
+fn join(left: &mut [i32; 128], right: &mut [i32; 128], flags: &[u8; 8], blocks: BlockCount)
+    requires { (Small blocks.count (2 ^ 27) left.old) × (Small blocks.count (2 ^ 27) right.old) }
+    ensures left { left.new ≡ with_flagged blocks.count flags.now (λ b s. sample_in left.old b s +ℤ sample_in right.old b s) left.old }
+    ensures right { right.new ≡ with_flagged blocks.count flags.now (λ b s. sample_in left.old b s -ℤ sample_in right.old b s) right.old }
 {
     for subband in 0..8 {
         if flags[subband] == 1 {
@@ -194,7 +193,7 @@ pub fn read_frame(accepted: AcceptedSet, frame: &[u8]) -> Samples
     let first = 32 + set.side_bits();
     let second = first + row_total(&left_widths);
     let block_bits = set.block_bits();
-    let blocks = set.blocks as usize;
+    let blocks = BlockCount::of(accepted);
     let left_values = Values {
         quantization: Quantization {
             widths: left_widths,

@@ -10,7 +10,7 @@ ghost use Rattle.sbc_frame.specs.Layout.{filled};
 ghost use Rattle.sbc_frame.specs.Arrays.{entry};
 ghost use Rattle.sbc_write.specs.Writing.{bits_in, count_in, row_bits, block_bits_of, value_bits_of};
 
-use sbc_frame::Quantization;
+use sbc_frame::{BlockCount, Quantization};
 use sbc_quantizer::quantize;
 pub use writer::Writer;
 
@@ -97,16 +97,15 @@ pub fn put_values(
     right: &[i32; 128],
     left_quantization: &Quantization,
     right_quantization: &Quantization,
-    blocks: usize,
+    blocks: BlockCount,
 ) -> Writer
-    requires few { blocks ≤ 16 }
-    requires room { count_in writer + blocks * (total 8 (entry left_quantization.now.widths) + total 8 (entry right_quantization.now.widths)) ≤ 8 * length bytes.old }
-    ensures written { bits_in bytes.new result ≡ bits_in bytes.old writer ++ value_bits_of left.now right.now left_quantization.now.widths right_quantization.now.widths left_quantization.now.factors right_quantization.now.factors blocks }
-    ensures counted { count_in result ≡ count_in writer + blocks * (total 8 (entry left_quantization.now.widths) + total 8 (entry right_quantization.now.widths)) }
+    requires room { count_in writer + blocks.count * (total 8 (entry left_quantization.now.widths) + total 8 (entry right_quantization.now.widths)) ≤ 8 * length bytes.old }
+    ensures written { bits_in bytes.new result ≡ bits_in bytes.old writer ++ value_bits_of left.now right.now left_quantization.now.widths right_quantization.now.widths left_quantization.now.factors right_quantization.now.factors blocks.count }
+    ensures counted { count_in result ≡ count_in writer + blocks.count * (total 8 (entry left_quantization.now.widths) + total 8 (entry right_quantization.now.widths)) }
     ensures behind { drop result.at bytes.new ≡ drop result.at bytes.old }
 {
     let mut next = writer;
-    for block in 0..blocks {
+    for block in 0..blocks.count {
         next = put_block(bytes, next, left, left_quantization, block);
         next = put_block(bytes, next, right, right_quantization, block);
     }

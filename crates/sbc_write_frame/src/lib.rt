@@ -7,7 +7,7 @@ ghost use Rattle.sbc_frame.specs.Layout.{filled};
 ghost use Rattle.sbc_write_frame.specs.Framing.{coding_bits, coding_bytes};
 
 use sbc_allocation::allocate;
-use sbc_frame::{CodedFrame, Quantization};
+use sbc_frame::{BlockCount, CodedFrame, Quantization};
 use sbc_parameters::AcceptedSet;
 use sbc_write::{Writer, finish, put_row, put_values};
 
@@ -38,7 +38,7 @@ fn write_body(accepted: AcceptedSet, body: &mut [u8], coding: &CodedFrame)
     let flagged = put_row(body, start, &coding.flags, 1, joins);
     let half = put_row(body, flagged, &factors.left, 4, subbands);
     let side = put_row(body, half, &factors.right, 4, others);
-    let blocks = set.blocks as usize;
+    let blocks = BlockCount::of(accepted);
     let end = put_values(
         body,
         side,

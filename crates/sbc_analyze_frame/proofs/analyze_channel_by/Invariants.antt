@@ -10,10 +10,10 @@ use Rattle.sbc_analyze_frame.proofs.analyze_channel_by.Given as goal
 
 abbrev pub invariant-loop-block : goal.invariant-loop-block
 invariant-loop-block g l =
-    let pcm = pcm_in l.channel.count l.channel.index (l.blocks * g.B.Bank.SUBBANDS) l.input in
-    (l.block ≤ l.blocks)
+    let pcm = pcm_in l.channel.count l.channel.index (l.fn.blocks.count * g.B.Bank.SUBBANDS) l.input in
+    (l.block ≤ l.fn.blocks.count)
     × (l.history ≡ analysis_after l.block g.B.Bank.SUBBANDS l.initial.history pcm)
     × (l.samples ≡ samples_array l.block (analyze_blocks l.block g.B.Bank.SUBBANDS l.initial.history pcm))
 
 abbrev pub decreases-loop-block : goal.decreases-loop-block
-decreases-loop-block g l = l.blocks - l.block
+decreases-loop-block g l = l.fn.blocks.count - l.block

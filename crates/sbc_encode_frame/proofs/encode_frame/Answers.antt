@@ -12,10 +12,12 @@ use Rattle.sbc_encode_frame.proofs.encode_frame.Goals as goal
 pub analyze_channel-left-requires : goal.analyze_channel-left-requires
 analyze_channel-left-requires c =
     let all = asked c.args.accepted.set 0 _ _ c.args.accepted.is_accepted c.channels-channels.ensures (omega (arith, c.channels-channels.ensures, (channels-range c.args.accepted.set).0)) c.requires.0 in
-    (all.0, all.1, all.4)
+    (all.0, rw c.of-blocks.ensures all.4)
 
 pub analyze_second-right-requires : goal.analyze_second-right-requires
-analyze_second-right-requires c = asked c.args.accepted.set 0 _ _ c.args.accepted.is_accepted c.channels-channels.ensures (omega (arith, c.channels-channels.ensures, (channels-range c.args.accepted.set).0)) c.requires.0
+analyze_second-right-requires c =
+    let all = asked c.args.accepted.set 0 _ _ c.args.accepted.is_accepted c.channels-channels.ensures (omega (arith, c.channels-channels.ensures, (channels-range c.args.accepted.set).0)) c.requires.0 in
+    (all.0, all.2, all.3, rw c.of-blocks.ensures all.4)
 
 pub write_frame-requires : goal.write_frame-requires
 write_frame-requires c = c.requires.1
@@ -25,17 +27,18 @@ unfolding encode_fields
 returns c =
     let p = c.args.accepted.set in
     let n = c.channels-channels in
+    let blocks = c.of-blocks in
     let input = c.args.input.now in
     let old_left = c.args.left_history.now in
     let old_right = c.args.right_history.now in
     let left = c.analyze_channel-left in
     let right = c.analyze_second-right in
     let samples =
-    channels-analyzed p n.result n.ensures old_left old_right input (ranges p c.args.accepted.is_accepted).blocks-high left.result right.result
+    channels-analyzed p n.result blocks.result.count n.ensures blocks.ensures old_left old_right input (ranges p c.args.accepted.is_accepted).blocks-high left.result right.result
     left.ensures.samples right.ensures.samples in
     record {
       histories =
-          histories-analyzed p n.result n.ensures old_left old_right input left.new.history right.new.history left.ensures.history
+          histories-analyzed p n.result blocks.result.count n.ensures blocks.ensures old_left old_right input left.new.history right.new.history left.ensures.history
           right.ensures.history;
       frame =
           c.write_frame.ensures

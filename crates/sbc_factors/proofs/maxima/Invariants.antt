@@ -6,7 +6,7 @@ use Rattle.sbc_factors.specs.Factors.{maxima_in}
 use Rattle.sbc_factors.proofs.maxima.Given as goal
 
 abbrev pub invariant-loop-block : goal.invariant-loop-block
-invariant-loop-block l = (l.block ≤ l.blocks) × (l.top ≡ maxima_in l.block l.samples)
+invariant-loop-block l = (l.block ≤ l.fn.blocks.count) × (l.top ≡ maxima_in l.block l.samples)
 
 abbrev pub decreases-loop-block : goal.decreases-loop-block
-decreases-loop-block l = l.blocks - l.block
+decreases-loop-block l = l.fn.blocks.count - l.block

@@ -48,7 +48,7 @@ pub loop-subband-preserved : goal.loop-subband-preserved
 loop-subband-preserved c =
     let a = c.args in
     let l = c.loop-subband in
-    pass a.blocks l.subband a.flags.now a.samples.now a.joined.now l.samples _ c.requires (omega arith) l.invariant
+    pass a.blocks.count l.subband a.flags.now a.samples.now a.joined.now l.samples _ a.blocks.at_most_16 (omega arith) l.invariant
     (grind (arith, common_steps)) (grind (arith, common_steps))
 
 pub returns : goal.returns
@@ -57,5 +57,5 @@ returns c =
     let all = picked c.args.flags.now c.args.samples.now c.args.joined.now in
     let xs = c.loop-subband.samples in
     let v = c.loop-subband.invariant in
-    flagged-is c.args.blocks c.args.flags.now (sample_in c.args.joined.now) c.args.samples.now xs v.1
-    (mixed-all c.args.blocks all own c.loop-subband.subband xs v.2 (omega arith)) v.3
+    flagged-is c.args.blocks.count c.args.flags.now (sample_in c.args.joined.now) c.args.samples.now xs v.1
+    (mixed-all c.args.blocks.count all own c.loop-subband.subband xs v.2 (omega arith)) v.3

@@ -20,8 +20,8 @@ picked flags own joined b s = if eqb (entry flags s) 1 then sample_in joined b s
 abbrev pub invariant-loop-subband : goal.invariant-loop-subband
 invariant-loop-subband l =
     (l.subband ≤ 8) × (length l.samples ≡ 128)
-    × Mixed l.blocks (picked l.flags l.initial.samples l.joined) (sample_in l.initial.samples) l.subband l.samples
-    × Behind l.blocks (sample_in l.initial.samples) l.samples
+    × Mixed l.blocks.count (picked l.flags l.initial.samples l.joined) (sample_in l.initial.samples) l.subband l.samples
+    × Behind l.blocks.count (sample_in l.initial.samples) l.samples
 
 abbrev pub decreases-loop-subband : goal.decreases-loop-subband
 decreases-loop-subband l = 8 - l.subband

@@ -12,11 +12,11 @@ use Rattle.sbc_play.proofs.play_channel_by.Given as goal
 abbrev pub invariant-loop-block : goal.invariant-loop-block
 invariant-loop-block g l =
     let S = g.B.Bank.SUBBANDS in
-    (l.block ≤ l.blocks)
+    (l.block ≤ l.fn.blocks.count)
     × (length l.after.values ≡ 160)
     × (l.after ≡ synthesis_after S l.initial.after (blocks_in l.block S l.samples))
     × (l.output
     ≡ placed l.channel.count l.channel.index 0 (l.block * S) (pcm_of S l.initial.after l.samples l.block) l.initial.output)
 
 abbrev pub decreases-loop-block : goal.decreases-loop-block
-decreases-loop-block g l = l.blocks - l.block
+decreases-loop-block g l = l.fn.blocks.count - l.block

@@ -21,7 +21,7 @@ pub play_channel-first-requires : goal.play_channel-first-requires
 play_channel-first-requires c =
     let q = asked c.args.accepted.set 0 _ _ c.args.accepted.is_accepted c.channels-channels.ensures (omega
     (arith, channels-range c.args.accepted.set))
-    c.requires.2 in (q.0, q.1, q.4, c.requires.0)
+    c.requires.2 in (q.4, c.requires.0)
 
 pub returns-then-channels-eq1 : goal.returns-then-channels-eq1
 returns-then-channels-eq1 c =
@@ -38,7 +38,7 @@ play_channel-second-requires c =
     omega (arith, c.requires.2, c.play_channel-first.auto.output) in
     let q = asked c.args.accepted.set 1 _ _ c.args.accepted.is_accepted c.channels-channels.ensures
     (omega (arith, c.if-channels-eq1.false, channels-range c.args.accepted.set, c.channels-channels.ensures)) room in
-    (q.0, q.1, q.4, c.requires.1)
+    (q.4, c.requires.1)
 
 pub returns : goal.returns
 returns c =

@@ -23,9 +23,9 @@ joined_right left right flags b s = if eqb (entry flags s) 1 then sample_in left
 abbrev pub invariant-loop-subband : goal.invariant-loop-subband
 invariant-loop-subband l =
     (l.subband ≤ 8) × (length l.left ≡ 128) × (length l.right ≡ 128)
-    × Mixed l.blocks (joined_left l.initial.left l.initial.right l.flags) (sample_in l.initial.left) l.subband l.left
-    × Mixed l.blocks (joined_right l.initial.left l.initial.right l.flags) (sample_in l.initial.right) l.subband l.right
-    × Behind l.blocks (sample_in l.initial.left) l.left × Behind l.blocks (sample_in l.initial.right) l.right
+    × Mixed l.blocks.count (joined_left l.initial.left l.initial.right l.flags) (sample_in l.initial.left) l.subband l.left
+    × Mixed l.blocks.count (joined_right l.initial.left l.initial.right l.flags) (sample_in l.initial.right) l.subband l.right
+    × Behind l.blocks.count (sample_in l.initial.left) l.left × Behind l.blocks.count (sample_in l.initial.right) l.right
 
 abbrev pub decreases-loop-subband : goal.decreases-loop-subband
 decreases-loop-subband l = 8 - l.subband

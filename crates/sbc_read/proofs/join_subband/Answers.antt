@@ -62,14 +62,14 @@ loop-block-init c = (
 pub overflow_add-left : goal.overflow_add-left
 overflow_add-left c =
     let l = c.loop-block in
-    sum-fits c.args.left.now c.args.right.now l.left l.right l.block c.args.subband (omega arith) (omega arith) l.invariant.1 l.invariant.2
-    (c.requires.2 l.block (omega arith))
+    sum-fits c.args.left.now c.args.right.now l.left l.right l.block c.args.subband (omega arith) (omega (arith, c.args.blocks.at_most_16)) l.invariant.1 l.invariant.2
+    (c.requires.1 l.block (omega arith))
 
 pub overflow_sub-right : goal.overflow_sub-right
 overflow_sub-right c =
     let l = c.loop-block in
-    differs-fits c.args.left.now c.args.right.now l.left l.right l.block c.args.subband (omega arith) (omega arith) l.invariant.1
-    l.invariant.2 (c.requires.2 l.block (omega arith))
+    differs-fits c.args.left.now c.args.right.now l.left l.right l.block c.args.subband (omega arith) (omega (arith, c.args.blocks.at_most_16)) l.invariant.1
+    l.invariant.2 (c.requires.1 l.block (omega arith))
 
 pub loop-block-preserved : goal.loop-block-preserved
 loop-block-preserved c =
@@ -80,10 +80,10 @@ loop-block-preserved c =
     let b : ℕ = c.loop-block.block in
     let s : ℕ = c.args.subband in
     let h : s < 8 = omega arith in
-    let k : b < 16 = omega arith in
+    let k : b < 16 = omega (arith, c.args.blocks.at_most_16) in
     let e = c.loop-block.invariant.1 in
     let d = c.loop-block.invariant.2 in
-    let small = c.requires.2 b (omega arith) in (
+    let small = c.requires.1 b (omega arith) in (
       omega arith,
       replace-next s (sums left₀ right₀ s) left₀ h b left _ e (sum-fits left₀ right₀ left right b s h k e d small)
           (sum_value left₀ right₀ left right b s h k e d small),

@@ -17,8 +17,8 @@ differences left right s b = sample_in left b s -ℤ sample_in right b s
 
 abbrev pub invariant-loop-block : goal.invariant-loop-block
 invariant-loop-block l =
-    (l.block ≤ l.blocks) × (l.left ≡ with_subband l.block l.subband (sums l.initial.left l.initial.right l.subband) l.initial.left)
+    (l.block ≤ l.fn.blocks.count) × (l.left ≡ with_subband l.block l.subband (sums l.initial.left l.initial.right l.subband) l.initial.left)
     × (l.right ≡ with_subband l.block l.subband (differences l.initial.left l.initial.right l.subband) l.initial.right)
 
 abbrev pub decreases-loop-block : goal.decreases-loop-block
-decreases-loop-block l = l.blocks - l.block
+decreases-loop-block l = l.fn.blocks.count - l.block

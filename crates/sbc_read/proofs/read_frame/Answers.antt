@@ -1,7 +1,7 @@
 -- `sbc_read::read_frame` meets its contract: what it has before it reads the values is `Got`, and the laws of Received do the rest.
 -- Assumes nothing.
 use native.Mathlib.Omega.{arith}
-use Rattle.sbc_parameters.proofs.Accepted.{ranges, frame-length-range}
+use Rattle.sbc_parameters.proofs.Accepted.{frame-length-range}
 use Rattle.sbc_frame.proofs.Positions.{frame-room}
 use Rattle.sbc_read.proofs.Received.{Got, widths_16, left-asks, right-asks, left-small, right-small, left-frame, right-frame, frame-small}
 use Rattle.sbc_read.proofs.read_frame.Goals as goal
@@ -30,7 +30,7 @@ pub invariant_of-left_values-2 : goal.invariant_of-left_values-2
 invariant_of-left_values-2 c =
     let side = c.read_side-side.result.factors in
     let got : Got c.args.accepted.set c.args.frame.now c.padded-bytes.result side.left side.right c.allocate-widths.result
-    c.side_bits-first.result c.row_total.result c.block_bits-block_bits.result =
+    c.side_bits-first.result c.row_total.result c.block_bits-block_bits.result c.of-blocks.result.count =
     record {
       good = c.args.accepted.is_accepted;
       long = c.requires;
@@ -42,15 +42,16 @@ invariant_of-left_values-2 c =
       second_is = c.row_total.ensures.0;
       bits_are = c.block_bits-block_bits.ensures.0;
       bits-high = c.block_bits-block_bits.ensures.1;
+      blocks_are = c.of-blocks.ensures;
     } in
     let asks = left-asks got in
-    record { some_blocks = asks.3; few_blocks = asks.4; few_bits = asks.5; room = asks.6 }
+    record { some_blocks = asks.3; few_bits = asks.4; room = asks.5 }
 
 pub invariant_of-right_values-2 : goal.invariant_of-right_values-2
 invariant_of-right_values-2 c =
     let side = c.read_side-side.result.factors in
     let got : Got c.args.accepted.set c.args.frame.now c.padded-bytes.result side.left side.right c.allocate-widths.result
-    c.side_bits-first.result c.row_total.result c.block_bits-block_bits.result =
+    c.side_bits-first.result c.row_total.result c.block_bits-block_bits.result c.of-blocks.result.count =
     record {
       good = c.args.accepted.is_accepted;
       long = c.requires;
@@ -62,15 +63,16 @@ invariant_of-right_values-2 c =
       second_is = c.row_total.ensures.0;
       bits_are = c.block_bits-block_bits.ensures.0;
       bits-high = c.block_bits-block_bits.ensures.1;
+      blocks_are = c.of-blocks.ensures;
     } in
     let asks = right-asks got in
-    record { some_blocks = asks.3; few_blocks = asks.4; few_bits = asks.5; room = asks.6 }
+    record { some_blocks = asks.3; few_bits = asks.4; room = asks.5 }
 
 pub join-requires : goal.join-requires
 join-requires c =
     let side = c.read_side-side.result.factors in
     let got : Got c.args.accepted.set c.args.frame.now c.padded-bytes.result side.left side.right c.allocate-widths.result
-    c.side_bits-first.result c.row_total.result c.block_bits-block_bits.result =
+    c.side_bits-first.result c.row_total.result c.block_bits-block_bits.result c.of-blocks.result.count =
     record {
       good = c.args.accepted.is_accepted;
       long = c.requires;
@@ -82,8 +84,8 @@ join-requires c =
       second_is = c.row_total.ensures.0;
       bits_are = c.block_bits-block_bits.ensures.0;
       bits-high = c.block_bits-block_bits.ensures.1;
+      blocks_are = c.of-blocks.ensures;
     } in (
-      (ranges _ got.good).blocks-high,
       left-small got c.read-left.result c.read-right.result c.read-left.ensures c.read-right.ensures,
       right-small got c.read-left.result c.read-right.result c.read-left.ensures c.read-right.ensures,
     )
@@ -92,7 +94,7 @@ pub returns : goal.returns
 returns c =
     let side = c.read_side-side.result.factors in
     let got : Got c.args.accepted.set c.args.frame.now c.padded-bytes.result side.left side.right c.allocate-widths.result
-    c.side_bits-first.result c.row_total.result c.block_bits-block_bits.result =
+    c.side_bits-first.result c.row_total.result c.block_bits-block_bits.result c.of-blocks.result.count =
     record {
       good = c.args.accepted.is_accepted;
       long = c.requires;
@@ -104,6 +106,7 @@ returns c =
       second_is = c.row_total.ensures.0;
       bits_are = c.block_bits-block_bits.ensures.0;
       bits-high = c.block_bits-block_bits.ensures.1;
+      blocks_are = c.of-blocks.ensures;
     } in
     record {
       left =

@@ -16,7 +16,7 @@ size left-widths right-widths = total 8 (entry left-widths) + total 8 (entry rig
 
 abbrev pub invariant-loop-block : goal.invariant-loop-block
 invariant-loop-block l =
-    (l.block ≤ l.blocks) × (length l.bytes ≡ length l.initial.bytes)
+    (l.block ≤ l.fn.blocks.count) × (length l.bytes ≡ length l.initial.bytes)
     × (count_in l.next ≡ count_in l.initial.next + l.block * size l.left_quantization.widths l.right_quantization.widths)
     × (bits_in l.bytes l.next
     ≡ bits_in l.initial.bytes l.initial.next
@@ -24,4 +24,4 @@ invariant-loop-block l =
     × (drop l.next.at l.bytes ≡ drop l.next.at l.initial.bytes)
 
 abbrev pub decreases-loop-block : goal.decreases-loop-block
-decreases-loop-block l = l.blocks - l.block
+decreases-loop-block l = l.fn.blocks.count - l.block

@@ -8,10 +8,10 @@ use mathlib.Core.List.{List, [], ◌∷◌, ◌++◌, append_assoc}
 use native.Mathlib.Omega.{arith}
 use lib.ListN.{length, get_or}
 use lib.IntN.{ℤ}
+use Rattle.laws.specs.Lists.{total}
 use Rattle.sbc_parameters.specs.declared.SbcParameters.{SbcParameters}
 use Rattle.sbc_parameters.specs.Parameters.{channels, accepted}
 use Rattle.sbc_parameters.specs.Sizes.{join_count, frame_length}
-use Rattle.sbc_parameters.proofs.Accepted.{ranges}
 use Rattle.sbc_allocation.specs.Allocate.{allocation_table}
 use Rattle.sbc_allocation.proofs.Rows.{table-16}
 use Rattle.sbc_frame.specs.Layout.{filled}
@@ -34,17 +34,22 @@ module _ (p : SbcParameters) (left right : List ℕ) (table : List (List ℕ)) w
   widths_16 e ch s = rw e (table-16 p (left ∷ right ∷ []) ch s)
 
   -- the bits of the parts, one behind the other, are those of the body
-  module _ (xs ys : List ℤ) (flags : List ℕ) (joins others : ℕ) where
-    in_order : (none flagged half side end : List Bool) → none ≡ [] → joins ≡ join_count p → others ≡ p.subbands * (channels p - 1)
+  module _ (xs ys : List ℤ) (flags : List ℕ) (joins others count : ℕ) where
+    in_order : (none flagged half side end : List Bool) → none ≡ [] → count ≡ p.blocks → joins ≡ join_count p → others ≡ p.subbands * (channels p - 1)
         → flagged ≡ none ++ row_bits flags 1 joins → half ≡ flagged ++ row_bits left 4 p.subbands → side ≡ half ++ row_bits right 4 others
-        → end ≡ side ++ value_bits_of xs ys (get_or table 0 []) (get_or table 1 []) left right p.blocks
+        → end ≡ side ++ value_bits_of xs ys (get_or table 0 []) (get_or table 1 []) left right count
         → table ≡ allocation_table p (left ∷ right ∷ []) → end ≡ coding_bits p flags left right xs ys
     unfolding coding_bits
-    in_order none flagged half side end n j o a b d e t = rw (e, d, b, a, n, o, j, t) (simp append_assoc)
+    in_order none flagged half side end n k j o a b d e t = rw (e, d, b, a, n, k, o, j, t) (simp append_assoc)
 
 -- how many scale factors the second channel has, as the code counts its channels
 others_is : (p : SbcParameters) (n : ℕ) → n ≡ channels p → p.subbands * (n - 1) ≡ p.subbands * (channels p - 1)
 others_is p n e = ap (λ (k : ℕ). p.subbands * (k - 1)) e
+
+-- how many bits the values have, as the code counts its blocks
+values_is : (table : List (List ℕ)) {n m : ℕ} → n ≡ m
+    → let size = total 8 (entry (get_or table 0 [])) + total 8 (entry (get_or table 1 [])) in n * size ≡ m * size
+values_is table e = ap (λ (k : ℕ). k * (total 8 (entry (get_or table 0 [])) + total 8 (entry (get_or table 1 [])))) e
 
 pub overflow_sub-others : goal.overflow_sub-others
 overflow_sub-others c = omega (arith, c.channels.ensures, (row-sizes _ c.args.accepted.is_accepted).channels-low)
@@ -134,22 +139,19 @@ put_values-end-requires c =
     let fits = room p left right c.allocate-widths.result c.allocate-widths.ensures c.args.accepted.is_accepted c.args.coding.now.factors.left_long c.args.coding.now.factors.right_long _
     c.requires in
     let others = others_is p c.channels.result c.channels.ensures in
-    record {
-      few = (ranges p c.args.accepted.is_accepted).blocks-high;
-      room =
-          omega (
-            arith,
-            c.put_row-side.ensures.counted,
-            c.put_row-side.auto.bytes,
-            c.put_row-half.ensures.counted,
-            c.put_row-half.auto.bytes,
-            c.put_row-flagged.ensures.counted,
-            c.put_row-flagged.auto.bytes,
-            c.join_count-joins.ensures.0,
-            others,
-            fits.0,
-          );
-    }
+    omega (
+      arith,
+      values_is c.allocate-widths.result c.of-blocks.ensures,
+      c.put_row-side.ensures.counted,
+      c.put_row-side.auto.bytes,
+      c.put_row-half.ensures.counted,
+      c.put_row-half.auto.bytes,
+      c.put_row-flagged.ensures.counted,
+      c.put_row-flagged.auto.bytes,
+      c.join_count-joins.ensures.0,
+      others,
+      fits.0,
+    )
 
 pub finish-requires : goal.finish-requires
 finish-requires c =
@@ -163,6 +165,7 @@ finish-requires c =
     let all : end ≡ body_width p c.allocate-widths.result =
     omega (
       arith,
+      values_is c.allocate-widths.result c.of-blocks.ensures,
       c.put_values-end.ensures.counted,
       c.put_row-side.ensures.counted,
       c.put_row-half.ensures.counted,
@@ -192,7 +195,7 @@ returns c =
     let left : List ℕ = c.args.coding.now.factors.left in
     let right : List ℕ = c.args.coding.now.factors.right in
     let others = others_is p c.channels.result c.channels.ensures in
-    let wrote = in_order p left right _ _ _ c.args.coding.now.flags _ _ _ _ _ _ _ (no_bits c.args.body.now) c.join_count-joins.ensures.0 others
+    let wrote = in_order p left right _ _ _ c.args.coding.now.flags _ _ _ _ _ _ _ _ (no_bits c.args.body.now) c.of-blocks.ensures c.join_count-joins.ensures.0 others
     c.put_row-flagged.ensures.written c.put_row-half.ensures.written c.put_row-side.ensures.written c.put_values-end.ensures.written
     c.allocate-widths.ensures
     in

@@ -27,11 +27,11 @@ unfolding total
 loop-subband-init c =
     let v = c.args.self.now in
     let q = v.quantization in
-    let g : ℕ → ℕ → ℤ = channel_value c.args.bytes.now q.widths q.factors v.position v.block_bits v.blocks in (
+    let g : ℕ → ℕ → ℤ = channel_value c.args.bytes.now q.widths q.factors v.position v.block_bits v.blocks.count in (
       omega arith,
       refl,
       omega arith,
-      mixed-none v.blocks g (λ _ _. pos 0) (replicate 128 (pos 0)) (λ b s h. zero_at b s (omega (arith, v.few_blocks))),
+      mixed-none v.blocks.count g (λ _ _. pos 0) (replicate 128 (pos 0)) (λ b s h. zero_at b s (omega (arith, v.blocks.at_most_16))),
       λ b s _. zero_at b s,
     )
 
@@ -50,7 +50,7 @@ loop-subband-preserved c =
     let v = c.args.self.now in
     let q = v.quantization in
     let bytes : List ℕ = c.args.bytes.now in
-    let n : ℕ = v.blocks in
+    let n : ℕ = v.blocks.count in
     let s : ℕ = c.loop-subband.subband in
     let was : List ℤ = c.loop-subband.samples in
     let is : List ℤ = c.if-width-ne0.samples in
@@ -66,7 +66,7 @@ loop-subband-preserved c =
             omega arith,
             ap length e ∙ length-replaced s f was n,
             omega (arith, more, w.at-is, c.loop-subband.invariant.2),
-            mixed-store n g (λ _ _. pos 0) s was mixed f is (omega arith) v.few_blocks e
+            mixed-store n g (λ _ _. pos 0) s was mixed f is (omega arith) v.blocks.at_most_16 e
                 (λ b _. ap (λ (k : ℕ). value k b) c.loop-subband.invariant.2),
             behind-store n (λ _ _. pos 0) s f was is behind e,
           )
@@ -86,6 +86,6 @@ returns c =
     let v = c.args.self.now in
     let q = v.quantization in
     let l = c.loop-subband in
-    let g : ℕ → ℕ → ℤ = channel_value c.args.bytes.now q.widths q.factors v.position v.block_bits v.blocks in
-    values-are c.args.bytes.now q.widths q.factors v.position v.block_bits v.blocks l.samples l.invariant.1
-    (mixed-all v.blocks g (λ _ _. pos 0) l.subband l.samples l.invariant.3 (omega arith)) l.invariant.4
+    let g : ℕ → ℕ → ℤ = channel_value c.args.bytes.now q.widths q.factors v.position v.block_bits v.blocks.count in
+    values-are c.args.bytes.now q.widths q.factors v.position v.block_bits v.blocks.count l.samples l.invariant.1
+    (mixed-all v.blocks.count g (λ _ _. pos 0) l.subband l.samples l.invariant.3 (omega arith)) l.invariant.4

@@ -15,9 +15,9 @@ use Rattle.sbc_read.proofs.Values.read.Given as goal
 abbrev pub invariant-loop-subband : goal.invariant-loop-subband
 invariant-loop-subband l =
     (l.subband ≤ 8) × (length l.samples ≡ 128) × (l.at ≡ l.self.position + total l.subband (entry l.self.quantization.widths))
-    × Mixed l.self.blocks
-    (channel_value l.bytes l.self.quantization.widths l.self.quantization.factors l.self.position l.self.block_bits l.self.blocks) (λ _ _. pos 0) l.subband l.samples
-    × Behind l.self.blocks (λ _ _. pos 0) l.samples
+    × Mixed l.self.blocks.count
+    (channel_value l.bytes l.self.quantization.widths l.self.quantization.factors l.self.position l.self.block_bits l.self.blocks.count) (λ _ _. pos 0) l.subband l.samples
+    × Behind l.self.blocks.count (λ _ _. pos 0) l.samples
 
 abbrev pub decreases-loop-subband : goal.decreases-loop-subband
 decreases-loop-subband l = 8 - l.subband

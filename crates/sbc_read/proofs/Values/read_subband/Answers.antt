@@ -43,7 +43,7 @@ number_at-requires c =
     let v = c.args.self.now in
     let q = v.quantization in
     let s : ℕ = c.args.subband in
-    let here = inside q.widths v.position v.block_bits v.blocks s (omega arith) v.room c.loop-block.block (omega arith) in
+    let here = inside q.widths v.position v.block_bits v.blocks.count s (omega arith) v.room c.loop-block.block (omega arith) in
     (omega arith, q.widths_within s, omega (arith, here, c.loop-block.invariant.1, c.requires.place))
 
 pub overflow_add-next : goal.overflow_add-next
@@ -51,7 +51,7 @@ overflow_add-next c =
     let v = c.args.self.now in
     let q = v.quantization in
     let s : ℕ = c.args.subband in
-    let here = inside q.widths v.position v.block_bits v.blocks s (omega arith) v.room c.loop-block.block (omega arith) in
+    let here = inside q.widths v.position v.block_bits v.blocks.count s (omega arith) v.room c.loop-block.block (omega arith) in
     omega (arith, here, v.few_bits, c.loop-block.invariant.1, c.requires.place)
 
 pub loop-block-preserved : goal.loop-block-preserved

@@ -9,8 +9,8 @@ use Rattle.sbc_read.proofs.Values.read_subband.Given as goal
 
 abbrev pub invariant-loop-block : goal.invariant-loop-block
 invariant-loop-block l =
-    (l.block ≤ l.self.blocks) × (l.next ≡ l.at + l.block * l.self.block_bits)
+    (l.block ≤ l.self.blocks.count) × (l.next ≡ l.at + l.block * l.self.block_bits)
     × (l.samples ≡ with_subband l.block l.subband (value_of l.bytes l.at l.self.block_bits (entry l.self.quantization.widths l.subband) (entry l.self.quantization.factors l.subband)) l.initial.samples)
 
 abbrev pub decreases-loop-block : goal.decreases-loop-block
-decreases-loop-block l = l.self.blocks - l.block
+decreases-loop-block l = l.self.blocks.count - l.block
