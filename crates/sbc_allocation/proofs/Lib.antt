@@ -2,3 +2,4 @@
 pub mod Rows
 pub mod Groups
 mod Tables
+mod Made

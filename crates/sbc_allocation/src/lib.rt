@@ -13,6 +13,7 @@ use sbc_modes::SbcChannelMode;
 use sbc_need::need_at;
 use sbc_parameters::SbcParameters;
 use sbc_share::share_bits;
+use std::array;
 
 // The need 32 higher, so that it and every level of the search is a natural number.
 fn raised_need(parameters: SbcParameters, frequency: usize, scale_factor: u8, subband: usize) -> u32
@@ -46,10 +47,8 @@ fn channel_needs(parameters: SbcParameters, scale_factors: [u8; 8]) -> [u32; 8]
 fn both_channels(left: [u32; 8], right: [u32; 8]) -> [u32; 16]
     ensures { result ≡ entries 16 (λ i. get_or (get_or (left ∷ right ∷ []) (i % 2) []) (i / 2) 0) }
 {
-    [
-        left[0], right[0], left[1], right[1], left[2], right[2], left[3], right[3], left[4],
-        right[4], left[5], right[5], left[6], right[6], left[7], right[7],
-    ]
+    let channels = [left, right];
+    array::from_fn(|i| channels[i % 2][i / 2])
 }
 
 // A channel's bits: of a group's, every `step`th from the first on.
@@ -57,16 +56,7 @@ fn row_of(bits: [u8; 16], first: usize, step: usize) -> [u8; 8]
     requires { (first < step) × (step ≤ 2) }
     ensures { result ≡ entries 8 (λ i. get_or bits (step * i + first) 0) }
 {
-    [
-        bits[first],
-        bits[step + first],
-        bits[step * 2 + first],
-        bits[step * 3 + first],
-        bits[step * 4 + first],
-        bits[step * 5 + first],
-        bits[step * 6 + first],
-        bits[step * 7 + first],
-    ]
+    array::from_fn(|i| bits[step * i + first])
 }
 
 // The row of a channel that is a group by itself.
