@@ -1,6 +1,6 @@
 -- What the answer of `validate` says of a set, and that a bitpool under 2 is none that a header can say.
 -- Assumes nothing.
-use Prim.Native.Nat.{ℕ, ◌<◌}
+use Prim.Native.Nat.{◌<◌}
 use mathlib.Core.Path.{◌≡◌, sym}
 use mathlib.Core.Bool.{true, false}
 use borrow.Author.Tests.{lt-leb}
