@@ -94,6 +94,7 @@ fn overwrite(bytes: &mut [u8], position: usize, value: u32, count: u32)
 {
     let mut at = position;
     let mut left = count;
+    // Kept: a `while`, since no index is counted: each turn writes as many bits as a byte has room for.
     while 0 < left {
         let offset = (at % 8) as u32;
         let n = left.min(8 - offset);

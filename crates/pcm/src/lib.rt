@@ -11,6 +11,7 @@ pub fn read(bytes: &[u8], samples: &mut [i16])
     requires { length bytes.now ≡ 2 * length samples.old }
     ensures { samples.new ≡ samples_in (length samples.old) bytes.now }
 {
+    // Kept: the index, since the two bytes of a sample stand at twice its index.
     for (i, sample) in samples.iter_mut().enumerate() {
         *sample = i16::from_le_bytes([bytes[2 * i], bytes[2 * i + 1]]);
     }
@@ -23,6 +24,7 @@ pub fn write(samples: &[i16], bytes: &mut [u8])
     ensures { bytes.new
         ≡ collect (length samples.now) (λ i. low_byte (get_or samples.now i (pos 0)) ∷ high_byte (get_or samples.now i (pos 0)) ∷ []) }
 {
+    // Kept: the index, as in `read`.
     for (i, sample) in samples.iter().enumerate() {
         let [low, high] = sample.to_le_bytes();
         bytes[2 * i] = low;

@@ -159,6 +159,7 @@ pub fn analyze(history: &mut [i16; 80], input: &[i16; 8], subbands: usize) -> [i
     ensures outputs { result ≡ padded (analysis_outputs (bands_of subbands) (shifted (bands_of subbands) history.old input.now)) }
     ensures within { Within 800000000 result }
 {
+    // Kept: one branch picks the type, since the number of subbands is known only as the program runs; it stands once a call.
     if subbands == 4 {
         return analyze_by::<Four>(history, input);
     }

@@ -82,6 +82,7 @@ pub fn analyze_channel(
         ≡ samples_array blocks.count
         (analyze_blocks blocks.count subbands history.old (pcm_in channel.count channel.index (blocks.count * subbands) input.now)) }
 {
+    // Kept: one branch picks the type, since the number of subbands is known only as the program runs; it stands once a call.
     if subbands == 4 {
         return analyze_channel_by::<Four>(history, input, blocks, channel);
     }

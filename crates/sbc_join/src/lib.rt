@@ -24,6 +24,7 @@ fn half_difference(a: i32, b: i32) -> i32
 }
 
 // Both halved, then added.
+// Kept: two functions of one line each; one that took `half_sum` or `half_difference` as a closure would be no shorter.
 pub fn half_sums(left: &[i32; 128], right: &[i32; 128]) -> [i32; 128]
     ensures { result ≡ half_sums left.now right.now }
 {
@@ -31,6 +32,7 @@ pub fn half_sums(left: &[i32; 128], right: &[i32; 128]) -> [i32; 128]
 }
 
 // Both halved, then subtracted.
+// Kept: as in `half_sums`.
 pub fn half_differences(left: &[i32; 128], right: &[i32; 128]) -> [i32; 128]
     ensures { result ≡ half_differences left.now right.now }
 {
@@ -64,9 +66,13 @@ fn pick_subband(samples: &mut [i32; 128], joined: &[i32; 128], subband: usize, b
 }
 
 // The joined samples where a flag is set.
-// Kept: loops by subband and block. As an array made of each place, as in `pick_row`, it takes three times the instructions (measured in
-// Rust: 1,157 against 347 for four flags), since every place then asks for its flag and its block.
-pub fn pick_samples(samples: &mut [i32; 128], joined: &[i32; 128], flags: &[u8; 8], blocks: BlockCount)
+// Kept: a `for` over the subbands, and in `pick_subband` one over the blocks, whose places are computed from both: 8 * block + subband.
+pub fn pick_samples(
+    samples: &mut [i32; 128],
+    joined: &[i32; 128],
+    flags: &[u8; 8],
+    blocks: BlockCount,
+)
     ensures { samples.new ≡ picked_samples blocks.count flags.now samples.old joined.now }
 {
     for subband in 0..8 {

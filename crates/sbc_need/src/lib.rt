@@ -26,6 +26,7 @@ fn offset_in<B: Bank>(frequency: usize, subband: usize) -> i32
 fn loudness_offset(subbands: u8, frequency: usize, subband: usize) -> i32
     ensures { result ≡ get_or (get_or (loudness_offsets subbands) frequency []) subband (pos 0) }
 {
+    // Kept: one branch picks the type, since the number of subbands is known only as the program runs.
     if subbands == 4 {
         offset_in::<Four>(frequency, subband)
     } else {

@@ -97,6 +97,7 @@ fn play_channel(
         (λ j. get_or (synthesize_blocks p.subbands history (blocks_in p.blocks p.subbands samples.now)) j (pos 0)) output.old }
 {
     let blocks = BlockCount::of(accepted);
+    // Kept: one branch picks the type, since the number of subbands is known only as the program runs; it stands once a call.
     if accepted.set.subbands == 4 {
         return play_channel_by::<Four>(history, samples, output, blocks, channel);
     }

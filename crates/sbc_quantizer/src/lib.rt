@@ -50,7 +50,7 @@ pub fn quantize(sample: i32, scale_factor: u8, bits: u8) -> u32
     (product >> (scale_factor as u32 + 14)) as u32
 }
 
-// 2 ^ 31 / (2 ^ bits - 1), rounded down. A `match` is compiled to a table in memory, where a constant array would be built anew at each read;
+// 2 ^ 31 / (2 ^ bits - 1), rounded down. A `match` is compiled to a table in memory;
 // the remainder is there for the compiler, which then has no other number to test for.
 fn reciprocal(bits: u8) -> u32
     requires { (0 < bits) × (bits ≤ 16) }

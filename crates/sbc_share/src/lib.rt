@@ -84,6 +84,7 @@ impl Group<'_> {
 
     // The level search: from a level down by one, to where the running sum reaches or passes the bitpool. It never passes the floor, the least
     // need minus sixteen, where each need has 16 bits.
+    // Kept: recursion, as the search is defined: it goes down by one, and ends in one of three ways.
     fn find_level(&self, floor: u32, level: u32, count: u32) -> u32
         requires { count ≤ self.now.bitpool }
         ensures { lowered result ≡ descend (level - floor) (map lowered self.now.needs.now) self.now.bitpool (lowered level) count }

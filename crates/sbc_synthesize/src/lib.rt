@@ -120,6 +120,7 @@ pub fn synthesize(history: &mut Synthesis, input: &[i32; 8], subbands: usize) ->
     ensures outputs { result
         ≡ padded (synthesis_outputs (bands_of subbands) (ring (bands_of subbands) history.new.values history.new.newest)) }
 {
+    // Kept: one branch picks the type, since the number of subbands is known only as the program runs; it stands once a call.
     if subbands == 4 {
         return synthesize_by::<Four>(history, input);
     }

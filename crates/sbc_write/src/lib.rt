@@ -15,7 +15,8 @@ use sbc_quantizer::quantize;
 pub use writer::Writer;
 
 // The low `count` bits of a value behind all that is written, flushed by bytes; no byte behind is touched.
-// Kept: a `while` over the bits held, of which each turn stores eight as a byte; a chain has no place for the store.
+// Kept: a `while`: each turn stores one byte, and the bits held say how many turns there are; a `for` would count a number that its body
+// never uses.
 fn put(bytes: &mut [u8], writer: Writer, value: u32, count: u32) -> Writer
     requires short { count ≤ 16 }
     requires low { value < 2 ^ count }
