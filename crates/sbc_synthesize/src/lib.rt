@@ -62,8 +62,7 @@ fn sums<B: Bank>(history: &Synthesis) -> [i64; 8]
 }
 
 // By how many bits a negated sum is shifted before the last one.
-// Kept: a test of the bank's constant, decided as it is compiled. A member of the trait `Bank` would take a declaration with a clause, and two
-// bodies.
+// Kept: a test of the bank's constant, decided as it is compiled. A member of the trait `Bank` would take a clause and two bodies.
 fn first_bits<B: Bank>() -> u32
     ensures { result + 1 ≡ rounding_bits B.SUBBANDS }
 {
