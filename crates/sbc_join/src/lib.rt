@@ -66,7 +66,12 @@ fn pick_subband(samples: &mut [i32; 128], joined: &[i32; 128], subband: usize, b
 // The joined samples where a flag is set.
 // Kept: loops by subband and block. As an array made of each place, as in `pick_row`, it takes three times the instructions (measured in
 // Rust: 1,157 against 347 for four flags), since every place then asks for its flag and its block.
-pub fn pick_samples(samples: &mut [i32; 128], joined: &[i32; 128], flags: &[u8; 8], blocks: BlockCount)
+pub fn pick_samples(
+    samples: &mut [i32; 128],
+    joined: &[i32; 128],
+    flags: &[u8; 8],
+    blocks: BlockCount,
+)
     ensures { samples.new ≡ picked_samples blocks.count flags.now samples.old joined.now }
 {
     for subband in 0..8 {
