@@ -103,7 +103,8 @@ pub fn analyze_second(
         else analysis_after blocks.count subbands history.old (pcm_in channels 1 (blocks.count * subbands) input.now)) }
     ensures samples { result
         ≡ (if eqb channels 1 then replicate 128 (pos 0)
-        else samples_array blocks.count (analyze_blocks blocks.count subbands history.old (pcm_in channels 1 (blocks.count * subbands) input.now))) }
+        else samples_array blocks.count
+        (analyze_blocks blocks.count subbands history.old (pcm_in channels 1 (blocks.count * subbands) input.now))) }
     ensures long { length result ≡ 128 }
 {
     if channels == 1 {

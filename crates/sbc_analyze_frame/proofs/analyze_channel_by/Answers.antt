@@ -26,8 +26,8 @@ loop-block-preserved g c =
     ap length block.ensures.outputs ∙ length-padded _ (omega (arith, length-analysis S block.new.history, bands-le g.met.B.Bank.bands)) in
     let put = copied (8 * turn.block) 8 turn.samples _ block.result c.copy_from_slice.ensures.after eight (omega (arith, long)) in (
       omega arith,
-      analysis-next S channel.count channel.index c.args.blocks.count turn.block c.args.history.now c.args.input.now _ _ c.loop-block-test.true
-          turn.invariant.1 block.ensures.history,
+      analysis-next S channel.count channel.index c.args.blocks.count turn.block c.args.history.now c.args.input.now _ _
+          c.loop-block-test.true turn.invariant.1 block.ensures.history,
       array-next S channel.count channel.index c.args.blocks.count turn.block c.args.history.now c.args.input.now _ _ c.loop-block-test.true
           turn.invariant.1 block.ensures.history _ _ _ (omega (arith, c.args.blocks.at_most_16)) block.ensures.outputs
           put turn.invariant.2,

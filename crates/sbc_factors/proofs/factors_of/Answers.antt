@@ -10,4 +10,5 @@ pub returns : goal.returns
 unfolding factors_in
 returns c =
     made c.from_fn.result _ 0 c.from_fn.ensures.items
-    (λ s y q low call. let e = factor-of c.args.blocks.count c.args.samples.now c.maxima-top.result s c.maxima-top.ensures low in search rules)
+    (λ s y q low call.
+    let e = factor-of c.args.blocks.count c.args.samples.now c.maxima-top.result s c.maxima-top.ensures low in search rules)

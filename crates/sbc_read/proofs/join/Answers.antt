@@ -76,7 +76,8 @@ pub loop-subband-preserved : goal.loop-subband-preserved
 loop-subband-preserved c =
     let a = c.args in
     let l = c.loop-subband in
-    passed a.blocks.count l.subband a.flags.now a.left.now a.right.now l.left l.right (omega arith) a.blocks.at_most_16 l.invariant.3 l.invariant.4
+    passed a.blocks.count l.subband a.flags.now a.left.now a.right.now l.left l.right (omega arith) a.blocks.at_most_16
+    l.invariant.3 l.invariant.4
     l.invariant.5 l.invariant.6 l.invariant.1 l.invariant.2 _ _ (grind (arith, common_steps)) (grind (arith, common_steps))
 
 pub returns-clause-left : goal.returns-clause-left
@@ -86,7 +87,8 @@ returns-clause-left c =
     let flags : List ℕ = c.args.flags.now in
     let l = c.loop-subband in
     flagged-is c.args.blocks.count flags (λ b s. sample_in left b s +ℤ sample_in right b s) left l.left l.invariant.1
-    (mixed-all c.args.blocks.count (joined_left left right flags) (sample_in left) l.subband l.left l.invariant.3 (omega arith)) l.invariant.5
+    (mixed-all c.args.blocks.count (joined_left left right flags) (sample_in left) l.subband l.left l.invariant.3 (omega arith))
+    l.invariant.5
 
 pub returns-clause-right : goal.returns-clause-right
 returns-clause-right c =
@@ -95,4 +97,5 @@ returns-clause-right c =
     let flags : List ℕ = c.args.flags.now in
     let l = c.loop-subband in
     flagged-is c.args.blocks.count flags (λ b s. sample_in left b s -ℤ sample_in right b s) right l.right l.invariant.2
-    (mixed-all c.args.blocks.count (joined_right left right flags) (sample_in right) l.subband l.right l.invariant.4 (omega arith)) l.invariant.6
+    (mixed-all c.args.blocks.count (joined_right left right flags) (sample_in right) l.subband l.right l.invariant.4 (omega arith))
+    l.invariant.6

@@ -62,13 +62,15 @@ loop-block-init c = (
 pub overflow_add-left : goal.overflow_add-left
 overflow_add-left c =
     let l = c.loop-block in
-    sum-fits c.args.left.now c.args.right.now l.left l.right l.block c.args.subband (omega arith) (omega (arith, c.args.blocks.at_most_16)) l.invariant.1 l.invariant.2
+    sum-fits c.args.left.now c.args.right.now l.left l.right l.block c.args.subband (omega arith)
+    (omega (arith, c.args.blocks.at_most_16)) l.invariant.1 l.invariant.2
     (c.requires.1 l.block (omega arith))
 
 pub overflow_sub-right : goal.overflow_sub-right
 overflow_sub-right c =
     let l = c.loop-block in
-    differs-fits c.args.left.now c.args.right.now l.left l.right l.block c.args.subband (omega arith) (omega (arith, c.args.blocks.at_most_16)) l.invariant.1
+    differs-fits c.args.left.now c.args.right.now l.left l.right l.block c.args.subband (omega arith)
+    (omega (arith, c.args.blocks.at_most_16)) l.invariant.1
     l.invariant.2 (c.requires.1 l.block (omega arith))
 
 pub loop-block-preserved : goal.loop-block-preserved

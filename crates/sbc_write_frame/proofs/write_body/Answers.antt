@@ -35,7 +35,8 @@ module _ (p : SbcParameters) (left right : List ℕ) (table : List (List ℕ)) w
 
   -- the bits of the parts, one behind the other, are those of the body
   module _ (xs ys : List ℤ) (flags : List ℕ) (joins others count : ℕ) where
-    in_order : (none flagged half side end : List Bool) → none ≡ [] → count ≡ p.blocks → joins ≡ join_count p → others ≡ p.subbands * (channels p - 1)
+    in_order : (none flagged half side end : List Bool) → none ≡ [] → count ≡ p.blocks → joins ≡ join_count p
+        → others ≡ p.subbands * (channels p - 1)
         → flagged ≡ none ++ row_bits flags 1 joins → half ≡ flagged ++ row_bits left 4 p.subbands → side ≡ half ++ row_bits right 4 others
         → end ≡ side ++ value_bits_of xs ys (get_or table 0 []) (get_or table 1 []) left right count
         → table ≡ allocation_table p (left ∷ right ∷ []) → end ≡ coding_bits p flags left right xs ys
