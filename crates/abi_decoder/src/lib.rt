@@ -1,7 +1,7 @@
 // A decoder as a struct of numbers, and the decoder's calls on it, which `sbc_abi` exports. Their definitions stand in specs/.
 #![tactic(auto)]
 
-ghost use Rattle.std.specs.Prelude.{◌≡◌};
+ghost use Rattle.std.specs.Prelude.{◌≡◌, if◌then◌else◌, None, Some};
 ghost use Rattle.codec.specs.Answers.{told};
 ghost use Rattle.sbc_decoder.specs.Decode.{new_decoder};
 ghost use Rattle.abi_decoder.specs.Decoder.{is_held, is_decoder, last_in, decoder_in, held_number, held_numbers, state_of};
@@ -20,6 +20,7 @@ use sbc_seek::SeekRequest;
 #[repr(C)]
 #[derive(Clone, Copy)]
 pub struct DecoderState {
+    // Kept: C's layout: two fields side by side for the two channels, and a number for a test.
     // Of each channel the last ten vectors of the synthesis, in a ring, and the slot of the newest.
     pub left: [i32; 160],
     pub right: [i32; 160],
@@ -47,6 +48,7 @@ pub struct SeekNumbers {
 // ---- a decoder as numbers. Kept: no enum may cross to C, so the last parameters are a flag with numbers beside it.
 
 // Whether the numbers stand for the parameters of a last frame, or for none.
+// Kept: this and `last_in` in one would give an Option of an Option, which is no plainer.
 #[tactic(auto, using(crate::proofs::Decoding::blanks), unfolding(crate::specs::Decoder::is_held))]
 fn is_held(has_parameters: u8, numbers: ParameterNumbers) -> bool
     ensures { result ≡ is_held has_parameters numbers }
@@ -62,10 +64,7 @@ fn is_held(has_parameters: u8, numbers: ParameterNumbers) -> bool
 fn last_in(has_parameters: u8, numbers: ParameterNumbers) -> Option<SbcParameters>
     ensures { result ≡ last_in has_parameters numbers }
 {
-    if has_parameters == 1 {
-        return Some(parameters_in(numbers));
-    }
-    None
+    (has_parameters == 1).then_some(parameters_in(numbers))
 }
 
 // Whether there are last parameters, as a number.
@@ -73,10 +72,7 @@ fn last_in(has_parameters: u8, numbers: ParameterNumbers) -> Option<SbcParameter
 fn held_number(last: Option<SbcParameters>) -> u8
     ensures { result ≡ held_number last }
 {
-    match last {
-        None => 0,
-        Some(_) => 1,
-    }
+    u8::from(last.is_some())
 }
 
 // The numbers of the last parameters, or zeros.
@@ -84,13 +80,11 @@ fn held_number(last: Option<SbcParameters>) -> u8
 fn held_numbers(last: Option<SbcParameters>) -> ParameterNumbers
     ensures { result ≡ held_numbers last }
 {
-    match last {
-        None => NO_PARAMETERS,
-        Some(parameters) => ParameterNumbers::from(parameters),
-    }
+    last.map_or(NO_PARAMETERS, ParameterNumbers::from)
 }
 
 // The state of a decoder.
+// Kept: no From, since it is private and reads a decoder that is only lent; `DecoderState::from(&decoder)` is no plainer.
 #[tactic(auto, unfolding(crate::specs::Decoder::state_of))]
 fn state_of(decoder: &SbcDecoder) -> DecoderState
     ensures { result ≡ state_of decoder.now }
@@ -111,6 +105,7 @@ fn state_of(decoder: &SbcDecoder) -> DecoderState
 }
 
 // The numbers of what a seek answers.
+// Kept: no From, since it is private, and reads as `coded_numbers` does for the other calls; a From is no plainer.
 #[tactic(auto, unfolding(crate::specs::Decoder::seek_numbers))]
 fn seek_numbers(answer: Result<SeekRequest, Error>) -> SeekNumbers
     ensures { result ≡ seek_numbers (told answer) }
@@ -139,20 +134,15 @@ impl DecoderState {
         state_of(&SbcDecoder::new())
     }
 
-    // Whether the numbers stand for a decoder.
-    #[tactic(auto, unfolding(crate::specs::Decoder::is_decoder))]
-    fn is_decoder(&self) -> bool
-        ensures { result ≡ is_decoder self.now }
+    // The decoder that the numbers stand for, where they stand for one.
+    #[tactic(auto, unfolding(crate::specs::Decoder::is_decoder, crate::specs::Decoder::decoder_in, crate::specs::Decoder::synthesis_of))]
+    fn decoder(&self) -> Option<SbcDecoder>
+        ensures { result ≡ (if is_decoder self.now then Some (decoder_in self.now) else None) }
     {
-        self.finishing < 2 && is_held(self.has_parameters, self.parameters)
-    }
-
-    // The decoder that the numbers stand for.
-    #[tactic(auto, unfolding(crate::specs::Decoder::decoder_in, crate::specs::Decoder::synthesis_of))]
-    fn decoder(&self) -> SbcDecoder
-        ensures { result ≡ decoder_in self.now }
-    {
-        SbcDecoder {
+        if !(self.finishing < 2 && is_held(self.has_parameters, self.parameters)) {
+            return None;
+        }
+        Some(SbcDecoder {
             parameters: last_in(self.has_parameters, self.parameters),
             synthesis: [
                 Synthesis {
@@ -166,7 +156,7 @@ impl DecoderState {
             ],
             finishing: self.finishing == 1,
             skip: self.skip,
-        }
+        })
     }
 
     // Makes the decoder as created; a state that stands for no decoder stays.
@@ -174,11 +164,11 @@ impl DecoderState {
     pub fn reset(&mut self)
         ensures { self.new ≡ reset_state self.old }
     {
-        if self.is_decoder() {
-            let mut decoder = self.decoder();
-            decoder.reset();
-            *self = state_of(&decoder);
-        }
+        let Some(mut decoder) = self.decoder() else {
+            return;
+        };
+        decoder.reset();
+        *self = state_of(&decoder);
     }
 
     // Says that the input has ended; a state that stands for no decoder stays.
@@ -187,11 +177,11 @@ impl DecoderState {
     pub fn finish(&mut self)
         ensures { self.new ≡ finish_state self.old }
     {
-        if self.is_decoder() {
-            let mut decoder = self.decoder();
-            decoder.finish();
-            *self = state_of(&decoder);
-        }
+        let Some(mut decoder) = self.decoder() else {
+            return;
+        };
+        decoder.finish();
+        *self = state_of(&decoder);
     }
 
     // Decodes frames until no whole one is left, or one is refused; a state that stands for no decoder is refused, and stays.
@@ -199,10 +189,9 @@ impl DecoderState {
     pub fn decode(&mut self, input: &[u8], output: &mut [i16]) -> CodedNumbers
         ensures { record { answer = result; state = self.new; output = output.new } ≡ decode_state self.old input.now output.old }
     {
-        if !self.is_decoder() {
+        let Some(mut decoder) = self.decoder() else {
             return coded_numbers(Err(Error::InvalidParameter));
-        }
-        let mut decoder = self.decoder();
+        };
         let answer = decoder.decode(input, output);
         *self = state_of(&decoder);
         coded_numbers(answer)
@@ -214,10 +203,9 @@ impl DecoderState {
     pub fn seek(&mut self, position: u64) -> SeekNumbers
         ensures { record { answer = result; state = self.new } ≡ seek_state self.old position }
     {
-        if !self.is_decoder() {
+        let Some(mut decoder) = self.decoder() else {
             return seek_numbers(Err(Error::InvalidParameter));
-        }
-        let mut decoder = self.decoder();
+        };
         let answer = decoder.seek(position);
         *self = state_of(&decoder);
         seek_numbers(answer)

@@ -2,7 +2,7 @@
 // a refusal are numbers here; numbers that stand for nothing are not accepted.
 #![tactic(auto)]
 
-ghost use Rattle.std.specs.Prelude.{◌≡◌};
+ghost use Rattle.std.specs.Prelude.{◌≡◌, if◌then◌else◌, None, Some};
 ghost use Rattle.sbc_parameters.specs.Header.{parse};
 ghost use Rattle.sbc_parameters.specs.Sizes.{frame_length, frame_samples};
 ghost use Rattle.codec.specs.Answers.{told};
@@ -111,7 +111,15 @@ pub fn is_accepted(numbers: ParameterNumbers) -> bool
     is_set(numbers) && parameters_in(numbers).accepted().is_ok()
 }
 
+// The parameters that numbers stand for, where they are accepted.
+pub fn accepted_in(numbers: ParameterNumbers) -> Option<SbcParameters>
+    ensures { result ≡ (if is_accepted numbers then Some (parameters_in numbers) else None) }
+{
+    is_accepted(numbers).then_some(parameters_in(numbers))
+}
+
 // The numbers of what a decode or encode call answers.
+// Kept: as a From it would be no plainer at its callers, and this public function would stay beside it and say the same.
 #[tactic(auto, unfolding(crate::specs::Numbers::coded_numbers))]
 pub fn coded_numbers(answer: Result<Progress, Error>) -> CodedNumbers
     ensures { result ≡ coded_numbers (told answer) }
@@ -148,14 +156,12 @@ pub fn parsed_numbers(header: &[u8]) -> ParsedNumbers
 }
 
 // The bytes of a frame; 0 where the parameters are not accepted.
+// Kept: this and `frame_samples_in` are twins, and 0 stands for none, since C gets a number and no Option; each is one line.
 #[tactic(auto, unfolding(crate::specs::Numbers::size_in))]
 pub fn frame_length_in(numbers: ParameterNumbers) -> usize
     ensures { result ≡ size_in frame_length numbers }
 {
-    if is_accepted(numbers) {
-        return parameters_in(numbers).frame_length();
-    }
-    0
+    accepted_in(numbers).map_or(0, SbcParameters::frame_length)
 }
 
 // The samples of a frame, all channels together; 0 where the parameters are not accepted.
@@ -163,8 +169,5 @@ pub fn frame_length_in(numbers: ParameterNumbers) -> usize
 pub fn frame_samples_in(numbers: ParameterNumbers) -> usize
     ensures { result ≡ size_in frame_samples numbers }
 {
-    if is_accepted(numbers) {
-        return parameters_in(numbers).frame_samples();
-    }
-    0
+    accepted_in(numbers).map_or(0, SbcParameters::frame_samples)
 }
