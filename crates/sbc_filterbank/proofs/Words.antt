@@ -3,7 +3,7 @@
 use Prim.Native.Nat.{ℕ, ◌+◌, ◌*◌, ◌^◌, ◌≤◌, ◌<◌}
 use mathlib.Core.Path.{◌≡◌, sym, ap, ap₂, ◌∙◌, subst}
 use mathlib.Core.List.{List}
-use native.Mathlib.Nat.{le_refl, le_trans, add-le-add, mul-one, mul-le-mul}
+use native.Mathlib.Nat.{le_trans, add-le-add}
 use native.Mathlib.Omega.{arith}
 use lib.ListN.{get_or}
 use lib.IntN.{ℤ, pos, nat_abs, ◌+ℤ◌, ◌-ℤ◌, ◌*ℤ◌}
@@ -23,14 +23,7 @@ pub read-within : (w : Width) (xs : List ℤ) {a : ℕ} → Within a xs → a < 
     → nat_abs (to_z w (of_z w (get_or xs i (pos 0)))) ≤ a
 read-within w xs {a} p l i = subst (λ (z : ℤ). nat_abs z ≤ a) (sym (read-entry w xs p l i)) (p i)
 
--- and a number within a that is divided
-pub divided-within : (w : Width) (z : ℤ) (m : ℕ) {a : ℕ} → 0 < m → nat_abs z ≤ a → a < 2 ^ hbits w
-    → nat_abs (to_z w (of_z w (floor_div z m))) ≤ a
-divided-within w z m {a} p h l =
-    let k : nat_abs (floor_div z m) ≤ a = nat_abs-floor z m a p
-    (le_trans h (subst (λ (n : ℕ). n ≤ a * m) (mul-one a) (mul-le-mul (le_refl a) p))) in
-    subst (λ (y : ℤ). nat_abs y ≤ a) (sym (to_z-of_z (within-fits w (floor_div z m) k l))) k
-
+-- and a number that is divided
 pub read-divided : (w : Width) (z : ℤ) (m : ℕ) → SFits w z → to_z w (of_z w (floor_div (to_z w (of_z w z)) m)) ≡ floor_div z m
 read-divided w z m h = ap (λ (y : ℤ). to_z w (of_z w (floor_div y m))) (to_z-of_z h) ∙ to_z-of_z (floor-fits z m h)
 
