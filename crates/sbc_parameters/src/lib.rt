@@ -141,19 +141,15 @@ impl SbcParameters {
     pub fn validate(self) -> Result<(), Error>
         ensures { told result ≡ validate self }
     {
-        self.accepted()?;
+        AcceptedSet::try_from(self)?;
         Ok(())
     }
 
-    // The same check, which hands on what it found in the type of what it gives.
     pub fn accepted(self) -> Result<AcceptedSet, Error>
         ensures ok { IfOk result (λ taken. taken.set ≡ self) }
         ensures err { IfErr result (λ error. (error ≡ Error.InvalidParameter) × (accepted self ≡ false)) }
     {
-        if self.is_accepted() {
-            return Ok(AcceptedSet { set: self });
-        }
-        Err(Error::InvalidParameter)
+        AcceptedSet::try_from(self)
     }
 
     #[tactic(auto, unfolding(crate::specs::Parameters::accepted))]
