@@ -79,11 +79,6 @@ filled-ext n m f g h =
 pub within-up_to : (n m b : ℕ) (f : ℕ → ℤ) → ((k : ℕ) → k < m → nat_abs (f k) ≤ b) → Within b (build n (up_to m f))
 within-up_to n m b f h i = build-all (λ z. nat_abs z ≤ b) n (up_to m f) i (pos 0) (λ j. up_to-all (λ z. nat_abs z ≤ b) m f j (h j) (λ _. zero-le)) zero-le
 
-pub within-replicate : (n b : ℕ) (z : ℤ) → nat_abs z ≤ b → Within b (replicate n z)
-within-replicate zero b z h i = zero-le
-within-replicate (suc n) b z h zero = h
-within-replicate (suc n) b z h (suc i) = within-replicate n b z h i
-
 -- ---- a part of a list overwritten: nothing yet, one turn, the length, and the entries below, above and within the part
 module _ {A : Type 0} (at : ℕ) (f : ℕ → A) (xs : List A) where
   pub overwrite-none : xs ≡ overwrite at 0 f xs

@@ -190,11 +190,6 @@ pub bytes-cons : (x : ℕ) (xs : List ℕ) → x < 256 → Bytes xs → Bytes (x
 bytes-cons x xs h hs zero = h
 bytes-cons x xs h hs (suc i) = hs i
 
--- bytes behind bytes
-pub bytes-append : (xs ys : List ℕ) → Bytes xs → Bytes ys → Bytes (xs ++ ys)
-bytes-append [] ys hx hy = hy
-bytes-append (x ∷ xs) ys hx hy = bytes-cons x (xs ++ ys) (hx 0) (bytes-append xs ys (λ i. hx (suc i)) hy)
-
 -- what is made of bits
 pub bytes-of : (n : ℕ) (bits : List Bool) → Bytes (bytes_of n bits)
 unfolding bytes_of

@@ -14,3 +14,4 @@ pub mod Sums
 pub mod Arrays
 pub mod Linear
 pub mod Answers
+pub mod Made

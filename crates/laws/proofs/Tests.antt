@@ -1,13 +1,14 @@
 -- Laws of tests: conjunctions, lists of tests, and the place of a number in a list.
 -- Assumes nothing.
-use Prim.Native.Nat.{ℕ, zero, suc, ◌+◌, ◌<◌}
+use Prim.Native.Nat.{ℕ, zero, suc, ◌+◌, ◌≤◌, ◌<◌}
 use mathlib.Core.Path.{◌≡◌, refl, sym, ap, ◌∙◌}
 use mathlib.Core.Bool.{Bool, true, false, ◌&&◌, ◌||◌, false≢true}
 use mathlib.Core.List.{List, [], ◌∷◌}
+use native.Mathlib.Nat.{le_antisymm}
 use native.Mathlib.Omega.{arith}
 use lib.Dec.{eqb}
 use lib.ListN.{length, get_or}
-use borrow.Author.Tests.{eqb-true, eq-eqb, ne_eqb, ltb-true}
+use borrow.Author.Tests.{eqb-true, eq-eqb, ne_eqb, ltb-true, ltb-false}
 use Rattle.std.specs.Prelude.{if◌then◌else◌}
 use Rattle.std.specs.List.{position_or_len, list_any}
 use Rattle.std.proofs.lemmas.Bool.Decides.{nat_tests}
@@ -69,6 +70,20 @@ back x (y ∷ ys) h = go (eqb x y) refl (back x ys)
     go : (t : Bool) → eqb x y ≡ t → (index_of x ys < length ys → get_or ys (index_of x ys) 0 ≡ x) → get_or (y ∷ ys) (index_of x (y ∷ ys)) 0 ≡ x
     go true e r = ap (λ (k : ℕ). get_or (y ∷ ys) k 0) (index-cons x y ys true e) ∙ sym (eqb-true x y e)
     go false e r = ap (λ (k : ℕ). get_or (y ∷ ys) k 0) (index-cons x y ys false e) ∙ r (omega (arith, index-cons x y ys false e))
+
+-- the place of a number in a list is at most the list's length, which stands for a number that is not in it
+pub index-at-most : (x : ℕ) (ys : List ℕ) → index_of x ys ≤ length ys
+unfolding index_of
+index-at-most x [] = omega arith
+index-at-most x (y ∷ ys) = go (eqb x y) refl (index-at-most x ys)
+  where
+    go : (t : Bool) → eqb x y ≡ t → index_of x ys ≤ length ys → index_of x (y ∷ ys) ≤ suc (length ys)
+    go true e h = omega (arith, index-cons x y ys true e)
+    go false e h = omega (arith, index-cons x y ys false e)
+
+pub unlisted : (x : ℕ) (ys : List ℕ) → listed x ys ≡ false → index_of x ys ≡ length ys
+unfolding listed
+unlisted x ys e = le_antisymm (index-at-most x ys) (ltb-false (index_of x ys) (length ys) e)
 
 pub listed-lt : (x : ℕ) (ys : List ℕ) → listed x ys ≡ true → index_of x ys < length ys
 unfolding listed

@@ -1,7 +1,9 @@
-// Laws on integers, sums, lists and bit fields, in specs/ and proofs/, and small functions on integers and lists. Nothing here knows of audio.
+// Laws on integers, sums, lists and bit fields, in specs/ and proofs/, and small functions on integers and lists. Nothing here knows of
+// audio.
 #![tactic(auto)]
 
-ghost use Rattle.std.specs.Prelude.{◌≡◌, ◌^◌, ◌<◌, ◌+ℤ◌, ◌*ℤ◌, if◌then◌else◌};
+ghost use Rattle.std.specs.Prelude.{◌≡◌, ◌^◌, ◌<◌, ◌≤◌, ◌+ℤ◌, ◌*ℤ◌, length, if◌then◌else◌, None, Some};
+ghost use Rattle.std.specs.List.{sum_by};
 ghost use Rattle.std.specs.Int.{w16, w32, w64};
 ghost use Rattle.std.proofs.Common.{SFits};
 ghost use Rattle.laws.specs.Lists.{index_of, listed, place_in};
@@ -20,7 +22,7 @@ pub fn multiply_add(sum: i64, a: i32, b: i32) -> i64
     requires { SFits w64 (sum +ℤ a *ℤ b) }
     ensures { result ≡ sum +ℤ a *ℤ b }
 {
-    sum + (a as i64) * (b as i64)
+    sum + i64::from(a) * i64::from(b)
 }
 
 // x divided by 2 ^ bits, rounded down, where that fits.
@@ -32,7 +34,8 @@ pub fn shift_down(x: i64, bits: u32) -> i32
 }
 
 // The nearest i32.
-// Kept: this and `clamp_i16` stay two. Each is one line over the library's clamp; a trait for both would hold the same two lines, and be no plainer.
+// Kept: this and `clamp_i16` stay two. Each is one line over the library's clamp; a trait for both would hold the same two lines, and be
+// no plainer.
 #[tactic(auto, using(crate::proofs::Clamps::clamp_is), unfolding(crate::specs::Integers::clamp_z))]
 pub fn clamp_i32(x: i64) -> i32
     ensures { result ≡ clamp_z w32 x }
@@ -50,10 +53,18 @@ pub fn clamp_i16(x: i64) -> i16
 
 // The place of a value in a list, where it is in it.
 #[tactic(auto, using(crate::proofs::Tests::index_is), unfolding(crate::specs::Lists::listed))]
-pub fn index_of(value: u32, values: &[u32]) -> Option<usize>
+pub fn find(value: u32, values: &[u32]) -> Option<usize>
     ensures { result ≡ (if listed value values.now then Some (index_of value values.now) else None) }
 {
     values.iter().position(|x| value == *x)
+}
+
+// The place of a value in a list, or the list's length where it is not in it.
+#[tactic(auto, using(crate::proofs::Tests::unlisted), unfolding(crate::specs::Lists::listed))]
+pub fn index_of(value: u32, values: &[u32]) -> usize
+    ensures { result ≡ index_of value values.now }
+{
+    find(value, values).unwrap_or(values.len())
 }
 
 // Whether a value is in a list.
@@ -65,9 +76,22 @@ pub fn is_listed(value: u32, values: &[u32]) -> bool
 }
 
 // The place of a value in a list, or 0 where it is not in it.
+// Kept: 0 and no Option, as the definition says: a header has an index for every set. `find` tells the two apart.
 #[tactic(auto, unfolding(crate::specs::Lists::place_in))]
 pub fn place_in(value: u32, values: &[u32]) -> usize
     ensures { result ≡ place_in value values.now }
 {
-    index_of(value, values).unwrap_or(0)
+    find(value, values).unwrap_or(0)
+}
+
+// The sum of a row.
+pub fn sum_of(row: &[u8]) -> u32
+    requires { length row.now ≤ 2 ^ 24 }
+    ensures { result ≡ sum_by (λ v. v) row.now }
+{
+    let mut sum = 0;
+    for value in row {
+        sum += u32::from(*value);
+    }
+    sum
 }

@@ -6,7 +6,6 @@ pub mod Accepted
 pub mod NextCall
 pub mod Untouched
 pub mod Validating
-pub mod Places
 pub mod Faults
 pub mod Following
 pub mod Reaching

@@ -13,5 +13,5 @@ returns c =
     let wide_a : SFits w64 c.args.a = sfits_widen tt c.ranges.a in
     let wide_b : SFits w64 c.args.b = sfits_widen tt c.ranges.b in
     let product : SFits w64 (c.args.a *ℤ c.args.b) = product-fits c.ranges.a c.ranges.b in
-    simp (to_z-of_z c.ranges.sum, to_z-of_z c.ranges.a, to_z-of_z c.ranges.b, to_z-of_z wide_a, to_z-of_z wide_b, to_z-of_z product)
+    simp (c.from.ensures, c.from-2.ensures, to_z-of_z c.ranges.sum, to_z-of_z c.ranges.a, to_z-of_z c.ranges.b, to_z-of_z wide_a, to_z-of_z wide_b, to_z-of_z product)
     (to_z-of_z c.requires)

@@ -1,11 +1,11 @@
--- `index_of` meets its contract: the library's first place is the definition's.
+-- `find` meets its contract: the library's first place is the definition's.
 -- Assumes nothing.
 use Rattle.std.proofs.Common.{rules, tests, nat_eq}
 use Rattle.std.proofs.lemmas.Iterator.{YieldsList-from_slice}
 use Rattle.std.proofs.lemmas.Iterator.Search.{position_from_yields_List}
 use Rattle.laws.specs.Lists.{listed}
 use Rattle.laws.proofs.Tests.{index_is}
-use Rattle.laws.proofs.index_of.Goals as goal
+use Rattle.laws.proofs.find.Goals as goal
 
 pub returns : goal.returns
 unfolding listed
