@@ -1,9 +1,11 @@
 // What a codec's call gives back: how much it consumed and produced, or a refusal.
 #![tactic(auto)]
 
-ghost use Rattle.std.specs.Prelude.{◌≡◌};
-ghost use Rattle.codec.specs.Errors.{error_number};
+ghost use Rattle.std.specs.Prelude.{◌≡◌, Some};
+ghost use Rattle.codec.specs.Errors.{error_number, error_text};
 ghost use Rattle.codec.specs.Answers.{told, progress_of, is_stalled, refused_after};
+
+use std::{error, fmt};
 
 // Why a call was refused.
 #[derive(Clone, Copy, Debug, PartialEq, Eq)]
@@ -29,6 +31,23 @@ impl From<Error> for u8 {
         }
     }
 }
+
+// The refusal's name in words.
+impl fmt::Display for Error {
+    ghost output = { λ error. Some (error_text error) };
+
+    fn fmt<W: fmt::Write>(&self, f: &mut fmt::Formatter<W>) -> fmt::Result {
+        f.write_str(match self {
+            Error::Incomplete => "incomplete",
+            Error::InvalidHeader => "invalid header",
+            Error::InvalidParameter => "invalid parameter",
+            Error::InvalidData => "invalid data",
+            Error::BufferTooSmall => "buffer too small",
+        })
+    }
+}
+
+impl error::Error for Error {}
 
 // How much a call consumed and produced: bytes and samples for a decoder, samples and bytes for an encoder.
 #[derive(Clone, Copy, Debug, PartialEq, Eq)]
