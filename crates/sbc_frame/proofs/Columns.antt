@@ -1,170 +1,183 @@
--- An array of samples with those of one subband replaced, block by block: what is stored, and which samples change. The array of the samples of
--- the first blocks.
+-- Arrays of subband samples, 16 rows of eight: their first rows replaced, block by block; zeros that are filled subband by subband; and the
+-- array of the samples of n blocks.
 -- Assumes nothing.
-use Prim.Native.Nat.{ℕ, ◌+◌, ◌*◌, ◌/◌, ◌%◌, ◌≤◌, ◌<◌}
+use Prim.Native.Nat.{ℕ, ◌+◌, ◌≤◌, ◌<◌}
 use mathlib.Core.Path.{◌≡◌, refl, sym, ap, ap₂, ◌∙◌}
 use mathlib.Core.Logic.{◌≢◌}
-use mathlib.Core.Bool.{Bool, true, false, ◌&&◌}
-use mathlib.Core.List.{List}
-use native.Mathlib.Nat.{le_refl}
+use mathlib.Core.List.{List, [], ◌∷◌, ◌++◌}
 use native.Mathlib.Decide.{ℕ_discrete}
 use native.Mathlib.Omega.{arith}
-use lib.Dec.{eqb, ltb}
-use lib.ListN.{length, get_or, set}
+use lib.Dec.{ltb}
+use lib.ListN.{length, get_or, set, replicate, get_or-append, get_or-replicate}
+use lib.Seq.{get_or_at}
 use lib.IntN.{ℤ, pos}
 use mir.Syntax.{w32}
 use mir.Val.{SFits, to_z, of_z}
 use mir.Facts.{to_z-of_z}
-use borrow.Author.Tests.{lt-ltb, le-ltb, eq-eqb, ltb-true, ltb-false, eqb-true, eqb-false}
+use borrow.Author.Tests.{lt-ltb, le-ltb, ltb-true, ltb-false}
 use Rattle.std.specs.Prelude.{if◌then◌else◌}
-use Rattle.laws.proofs.Cases.{by-test, by_both}
-use Rattle.laws.proofs.Lists.{length-build, get_or-build, get_or-build-out, build-is}
 use Rattle.laws.specs.Lists.{build}
 use Rattle.laws.specs.Sums.{up_to}
-use Rattle.laws.proofs.Arrays.{build-set, get_or-filled}
+use Rattle.laws.proofs.Cases.{by-test}
+use Rattle.laws.proofs.Lists.{length-build, get_or-build, build-is, build-ext}
+use Rattle.laws.proofs.Arrays.{build-set, fill_none}
 use Rattle.sbc_frame.specs.Encoding.{sample_at}
-use Rattle.sbc_frame.specs.Arrays.{with_subband, sample_in, SamplesIn, samples_array}
+use Rattle.sbc_frame.specs.Arrays.{with_rows, no_samples, samples_array, SamplesIn, with_subband}
 
-module _ (s : ℕ) (f : ℕ → ℤ) (xs : List ℤ) where
-  -- what stands at a place, with n blocks replaced
-  abbrev replaced_at : ℕ → ℕ → ℤ
-  replaced_at n k = if eqb (k % 8) s && ltb (k / 8) n then f (k / 8) else get_or xs k (pos 0)
+-- ---- the rows of the first n blocks replaced
+module _ (row : ℕ → List ℤ) (xs : List (List ℤ)) where
+  -- what stands in row b
+  abbrev row_at : ℕ → ℕ → List ℤ
+  row_at n b = if ltb b n then row b else get_or xs b []
 
-  -- a place of the subband in a replaced block
-  replaced-in : (n k : ℕ) → k % 8 ≡ s → k / 8 < n → replaced_at n k ≡ f (k / 8)
-  replaced-in n k e h = rw (eq-eqb (k % 8) s e, lt-ltb (k / 8) n h)
+  -- no row yet
+  pub rows_none : length xs ≡ 16 → xs ≡ with_rows 0 row xs
+  unfolding with_rows
+  rows_none long = sym (build-is 16 (row_at 0) xs [] long (λ b _. rw (le-ltb b 0 (omega arith))))
 
-  -- any other place
-  replaced-out : (n k : ℕ) → (k % 8 ≡ s → n ≤ k / 8) → replaced_at n k ≡ get_or xs k (pos 0)
-  replaced-out n k h =
-      by_both (λ z. z ≡ get_or xs k (pos 0)) (eqb (k % 8) s) (ltb (k / 8) n) (f (k / 8)) (get_or xs k (pos 0))
-      (λ p q. absurd (omega (arith, h (eqb-true (k % 8) s p), ltb-true (k / 8) n q))) (λ _. refl) (λ _. refl)
+  -- one row more
+  pub rows_next : (n : ℕ) (ys : List (List ℤ)) (r : List ℤ) → ys ≡ with_rows n row xs → r ≡ row n → set ys n r ≡ with_rows (n + 1) row xs
+  unfolding with_rows
+  rows_next n ys r e q =
+      ap (λ (zs : List (List ℤ)). set zs n r) e
+      ∙ build-set 16 (row_at n) (row_at (n + 1)) n r [] (q ∙ sym (rw (lt-ltb n (n + 1) (omega arith)))) same
+    where
+      same : (b : ℕ) → b ≢ n → row_at n b ≡ row_at (n + 1) b
+      same b ne =
+          by-test (λ z. z ≡ row_at (n + 1) b) (ltb b n) (row b) (get_or xs b [])
+          (λ t. sym (rw (lt-ltb b (n + 1) (omega (arith, ltb-true b n t)))))
+          (λ t. sym (rw (le-ltb b (n + 1) (omega (arith, ltb-false b n t)))))
 
-  -- one block more changes nothing but its own place
-  replaced-next : s < 8 → (n k : ℕ) → k ≢ 8 * n + s → replaced_at n k ≡ replaced_at (n + 1) k
-  replaced-next h n k ne =
-      by_both (λ z. z ≡ replaced_at (n + 1) k) (eqb (k % 8) s) (ltb (k / 8) n) (f (k / 8)) (get_or xs k (pos 0))
-      (λ p q. sym (replaced-in (n + 1) k (eqb-true (k % 8) s p) (omega (arith, ltb-true (k / 8) n q))))
-      (λ p. sym (replaced-out (n + 1) k (λ e. absurd (eqb-false (k % 8) s p e))))
-      (λ q. sym (replaced-out (n + 1) k (λ e. omega (arith, ltb-false (k / 8) n q))))
+  pub length_rows : (n : ℕ) → length (with_rows n row xs) ≡ 16
+  unfolding with_rows
+  length_rows n = length-build 16 (row_at n)
 
-  -- no block is replaced yet
-  pub none-replaced : length xs ≡ 128 → xs ≡ with_subband 0 s f xs
+  -- a row that is replaced
+  pub row_in : (n b : ℕ) → b < n → n ≤ 16 → get_or (with_rows n row xs) b [] ≡ row b
+  unfolding with_rows
+  row_in n b h m = get_or-build 16 (row_at n) b [] (omega arith) ∙ rw (lt-ltb b n h)
+
+  -- and one that is not
+  pub row_out : (n b : ℕ) → n ≤ b → b < 16 → get_or (with_rows n row xs) b [] ≡ get_or xs b []
+  unfolding with_rows
+  row_out n b h k = get_or-build 16 (row_at n) b [] k ∙ rw (le-ltb b n h)
+
+-- the same rows, of the array and of one whose rows are replaced already
+pub rows_ext : (n : ℕ) (p q : ℕ → List ℤ) (xs : List (List ℤ)) → ((b : ℕ) → b < n → p b ≡ q b) → with_rows n p xs ≡ with_rows n q xs
+unfolding with_rows
+rows_ext n p q xs h =
+    build-ext 16 _ _
+    (λ b _. by-test (λ z. z ≡ (if ltb b n then q b else get_or xs b [])) (ltb b n) (p b) (get_or xs b [])
+    (λ t. let lt = ltb-true b n t in h b lt ∙ sym (rw (lt-ltb b n lt))) (λ t. sym (rw t)))
+
+pub rows_again : (n : ℕ) (p q r : ℕ → List ℤ) (xs : List (List ℤ)) → ((b : ℕ) → b < n → b < 16 → r b ≡ q b)
+    → with_rows n r (with_rows n p xs) ≡ with_rows n q xs
+unfolding with_rows
+rows_again n p q r xs h =
+    build-ext 16 _ _
+    (λ b k. by-test (λ z. z ≡ (if ltb b n then q b else get_or xs b [])) (ltb b n) (r b) (get_or (with_rows n p xs) b [])
+    (λ t. let lt = ltb-true b n t in h b lt k ∙ sym (rw (lt-ltb b n lt)))
+    (λ t. get_or-build 16 (λ a. if ltb a n then p a else get_or xs a []) b [] k ∙ rw t))
+
+-- ---- the samples of one subband replaced, as the machine reads back what is stored
+module _ (s : ℕ) (f : ℕ → ℤ) (xs : List (List ℤ)) where
+  -- in no block yet
+  pub column_none : length xs ≡ 16 → xs ≡ with_subband 0 s f xs
   unfolding with_subband
-  none-replaced h = sym (build-is 128 (replaced_at 0) xs (pos 0) h (λ k _. replaced-out 0 k (λ _. omega arith)))
+  column_none long = rows_none _ xs long
 
-  -- the array keeps its length
-  pub length-replaced : (n : ℕ) → length (with_subband n s f xs) ≡ 128
+  -- in one block more
+  pub column_next : (n : ℕ) (ys : List (List ℤ)) (v : ℤ) → ys ≡ with_subband n s f xs → n < 16 → SFits w32 v → v ≡ f n
+      → set ys n (set (get_or ys n []) s (to_z w32 (of_z w32 v))) ≡ with_subband (n + 1) s f xs
   unfolding with_subband
-  length-replaced n = length-build 128 (replaced_at n)
+  column_next n ys v e h fits q =
+      rows_next _ xs n ys _ e
+      (ap₂ (λ (row : List ℤ) (z : ℤ). set row s z)
+      (ap (λ (zs : List (List ℤ)). get_or zs n []) e ∙ row_out _ xs n n (omega arith) h) (to_z-of_z fits ∙ q))
 
-  -- one block more is replaced, as the machine reads back what is stored
-  pub replace-next : s < 8 → (n : ℕ) (ys : List ℤ) (v : ℤ) → ys ≡ with_subband n s f xs → SFits w32 v → v ≡ f n
-      → set ys (8 * n + s) (to_z w32 (of_z w32 v)) ≡ with_subband (n + 1) s f xs
-  unfolding with_subband
-  replace-next h n ys v e fits q =
-      let block : (8 * n + s) / 8 ≡ n = omega arith in
-      ap (λ (l : List ℤ). set l (8 * n + s) (to_z w32 (of_z w32 v))) e
-      ∙ build-set 128 (replaced_at n) (replaced_at (n + 1)) (8 * n + s) (to_z w32 (of_z w32 v)) (pos 0)
-      (to_z-of_z fits ∙ q ∙ sym (replaced-in (n + 1) (8 * n + s) (omega arith) (omega arith) ∙ ap f block)) (replaced-next h n)
+-- ---- zeros that are filled subband by subband
+-- the samples g in the first n blocks, below subband t
+unfoldable pub columns : ℕ → (ℕ → ℕ → ℤ) → ℕ → List (List ℤ)
+columns n g t = with_rows n (λ b. build 8 (up_to t (g b))) no_samples
 
-  -- a sample of the subband in a replaced block
-  pub sample-replaced : (n b : ℕ) → s < 8 → b < n → n ≤ 16 → sample_in (with_subband n s f xs) b s ≡ f b
-  unfolding with_subband
-  sample-replaced n b h p m =
-      let block : (8 * b + s) / 8 ≡ b = omega arith in
-      get_or-build 128 (replaced_at n) (8 * b + s) (pos 0) (omega arith) ∙ replaced-in n (8 * b + s) (omega arith) (omega arith) ∙ ap f block
+module _ (n : ℕ) (g : ℕ → ℕ → ℤ) where
+  -- no subband yet
+  pub columns_none : replicate 16 (replicate 8 (pos 0)) ≡ columns n g 0
+  unfolding columns with_rows no_samples
+  columns_none =
+      sym (build-is 16 (λ b. if ltb b n then build 8 (up_to 0 (g b)) else get_or rows b []) rows [] refl
+      (λ b k. by-test (λ z. z ≡ get_or rows b []) (ltb b n) (build 8 (up_to 0 (g b))) (get_or rows b [])
+      (λ _. sym (fill_none 8 (g b)) ∙ sym (get_or-replicate {A = List ℤ} 16 b _ [] k)) (λ _. refl)))
+    where
+      rows : List (List ℤ)
+      rows = replicate 16 (replicate 8 (pos 0))
 
-  -- any other sample
-  pub sample-kept : (n b t : ℕ) → t < 8 → b < 16 → (t ≡ s → n ≤ b) → sample_in (with_subband n s f xs) b t ≡ sample_in xs b t
-  unfolding with_subband
-  sample-kept n b t h p m =
-      let place : (8 * b + t) % 8 ≡ t = omega arith in
-      let block : (8 * b + t) / 8 ≡ b = omega arith in
-      get_or-build 128 (replaced_at n) (8 * b + t) (pos 0) (omega arith)
-      ∙ replaced-out n (8 * b + t) (λ e. omega (arith, m (sym place ∙ e)))
+  -- one sample more in a row changes no other
+  column-other : (b t s : ℕ) → s ≢ t → up_to t (g b) s ≡ up_to (t + 1) (g b) s
+  column-other b t s ne =
+      by-test (λ z. z ≡ up_to (t + 1) (g b) s) (ltb s t) (g b s) (pos 0)
+      (λ e. sym (rw (lt-ltb s (t + 1) (omega (arith, ltb-true s t e)))))
+      (λ e. sym (rw (le-ltb s (t + 1) (omega (arith, ltb-false s t e)))))
 
--- ---- a loop over the subbands: those below n have the samples g, those from n on still have the samples h
-module _ (blocks : ℕ) (g h : ℕ → ℕ → ℤ) where
-  -- the sample of block b and subband s
-  abbrev mixture : ℕ → ℕ → ℕ → ℤ
-  mixture n b s = if ltb s n then g b s else h b s
+  column-here : (b t : ℕ) → g b t ≡ up_to (t + 1) (g b) t
+  column-here b t = sym (rw (lt-ltb t (t + 1) (omega arith)))
 
-  -- the array has them
-  abbrev pub Mixed : ℕ → List ℤ → Type 0
-  Mixed n xs = (b s : ℕ) → b < blocks → s < 8 → sample_in xs b s ≡ mixture n b s
+  -- the next subband is stored
+  pub columns_store : (t : ℕ) (f : ℕ → ℤ) (xs ys : List (List ℤ)) → xs ≡ columns n g t → ((b : ℕ) → b < n → f b ≡ g b t)
+      → n ≤ 16 → ys ≡ with_subband n t f xs → ys ≡ columns n g (t + 1)
+  unfolding columns with_subband
+  columns_store t f xs ys e same most stored =
+      stored
+      ∙ ap (λ (zs : List (List ℤ)). with_rows n (λ b. set (get_or zs b []) t (f b)) zs) e
+      ∙ rows_again n _ (λ b. build 8 (up_to (t + 1) (g b))) _ no_samples
+      (λ b h _. ap (λ (row : List ℤ). set row t (f b)) (row_in _ no_samples n b h most)
+      ∙ build-set 8 (up_to t (g b)) (up_to (t + 1) (g b)) t (f b) (pos 0) (same b h ∙ column-here b t) (column-other b t))
 
-  -- at first all have their samples h
-  pub mixed-none : (xs : List ℤ) → ((b s : ℕ) → b < blocks → s < 8 → sample_in xs b s ≡ h b s) → Mixed 0 xs
-  mixed-none xs e b s p q = e b s p q ∙ sym (rw (le-ltb s 0 (omega arith)))
+  -- the next subband has no samples but 0
+  pub columns_skip : (t : ℕ) (xs : List (List ℤ)) → xs ≡ columns n g t → ((b : ℕ) → b < n → g b t ≡ pos 0) → xs ≡ columns n g (t + 1)
+  unfolding columns
+  columns_skip t xs e none =
+      e ∙ rows_ext n _ _ no_samples (λ b h. build-ext 8 (up_to t (g b)) (up_to (t + 1) (g b)) (λ s _. go b h s (ℕ_discrete s t)))
+    where
+      go : (b : ℕ) → b < n → (s : ℕ) → Dec (s ≡ t) → up_to t (g b) s ≡ up_to (t + 1) (g b) s
+      go b h s (yes r) = rw (r, le-ltb t t (omega arith)) (sym (none b h) ∙ column-here b t)
+      go b h s (no ne) = column-other b t s ne
 
-  -- one subband more changes no other
-  mixture-next : (n b s : ℕ) → s ≢ n → mixture n b s ≡ mixture (n + 1) b s
-  mixture-next n b s ne =
-      by-test (λ z. z ≡ mixture (n + 1) b s) (ltb s n) (g b s) (h b s)
-      (λ e. sym (rw (lt-ltb s (n + 1) (omega (arith, ltb-true s n e)))))
-      (λ e. sym (rw (le-ltb s (n + 1) (omega (arith, ltb-false s n e)))))
-
-  module _ (n : ℕ) (xs : List ℤ) (m : Mixed n xs) where
-    -- the next subband still has its samples h
-    pub mixed-here : n < 8 → (b : ℕ) → b < blocks → sample_in xs b n ≡ h b n
-    mixed-here k b p = m b n p k ∙ rw (le-ltb n n (le_refl n))
-
-    -- in the end all have their samples g
-    pub mixed-all : 8 ≤ n → (b s : ℕ) → b < blocks → s < 8 → sample_in xs b s ≡ g b s
-    mixed-all k b s p q = m b s p q ∙ rw (lt-ltb s n (omega arith))
-
-    -- the next subband is replaced
-    pub mixed-store : (f : ℕ → ℤ) (ys : List ℤ) → n < 8 → blocks ≤ 16 → ys ≡ with_subband blocks n f xs
-        → ((b : ℕ) → b < blocks → f b ≡ g b n) → Mixed (n + 1) ys
-    mixed-store f ys k l e fg b s p q = ap (λ (zs : List ℤ). sample_in zs b s) e ∙ go (ℕ_discrete s n)
-      where
-        go : Dec (s ≡ n) → sample_in (with_subband blocks n f xs) b s ≡ mixture (n + 1) b s
-        go (yes r) = rw r (sample-replaced n f xs blocks b k p l ∙ fg b p ∙ sym (rw (lt-ltb n (n + 1) (omega arith))))
-        go (no ne) = sample-kept n f xs blocks b s q (omega arith) (λ r. absurd (ne r)) ∙ m b s p q ∙ mixture-next n b s ne
-
-    -- the next subband keeps its samples
-    pub mixed-skip : (ys : List ℤ) → ys ≡ xs → ((b : ℕ) → b < blocks → h b n ≡ g b n) → Mixed (n + 1) ys
-    mixed-skip ys e same b s p q = ap (λ (zs : List ℤ). sample_in zs b s) e ∙ m b s p q ∙ go (ℕ_discrete s n)
-      where
-        go : Dec (s ≡ n) → mixture n b s ≡ mixture (n + 1) b s
-        go (yes r) = rw r (rw (le-ltb n n (le_refl n)) (same b p ∙ sym (rw (lt-ltb n (n + 1) (omega arith)))))
-        go (no ne) = mixture-next n b s ne
+  -- in the end all are stored
+  pub columns_all : (t : ℕ) (xs samples : List (List ℤ)) → 8 ≤ t → xs ≡ columns n g t
+      → ((b s : ℕ) → b < n → s < 8 → g b s ≡ sample_at samples b s) → xs ≡ samples_array n samples
+  unfolding columns samples_array
+  columns_all t xs samples h e same =
+      e ∙ rows_ext n _ _ no_samples
+      (λ b k. build-ext 8 (up_to t (g b)) (sample_at samples b) (λ s q. rw (lt-ltb s t (omega arith)) (same b s k q)))
 
 -- ---- the array of the samples of n blocks
 module _ (n : ℕ) (samples : List (List ℤ)) where
-  -- what stands at a place of a block
-  abbrev placed : ℕ → ℤ
-  placed k = sample_at samples (k / 8) (k % 8)
+  -- no block yet
+  pub array_none : replicate 16 (replicate 8 (pos 0)) ≡ samples_array 0 samples
+  unfolding samples_array no_samples
+  array_none = rows_none _ _ refl
 
-  pub length-array : length (samples_array n samples) ≡ 128
+  -- one block more: its eight samples, the row's with zeros behind them
+  pub array_next : (row outputs : List ℤ) (xs : List (List ℤ)) → length samples ≡ n → outputs ≡ build 8 (λ s. get_or row s (pos 0))
+      → xs ≡ samples_array n samples → set xs n outputs ≡ samples_array (n + 1) (samples ++ (row ∷ []))
   unfolding samples_array
-  length-array = length-build 128 (up_to (8 * n) placed)
-
-  pub array-holds : n ≤ 16 → SamplesIn n samples (samples_array n samples)
-  unfolding samples_array
-  array-holds m b s p q =
-      let place : (8 * b + s) % 8 ≡ s = omega arith in
-      let block : (8 * b + s) / 8 ≡ b = omega arith in
-      get_or-filled 128 (8 * n) placed _ (8 * b + s) refl (omega arith) (omega arith) ∙ ap₂ (λ (i j : ℕ). sample_at samples i j) block place
-
-  pub array_behind : (k : ℕ) → 8 * n ≤ k → get_or (samples_array n samples) k (pos 0) ≡ pos 0
-  unfolding samples_array
-  array_behind k h = go (ltb k 128) refl
+  array_next row outputs xs long o e =
+      rows_next (λ b. build 8 (sample_at more b)) no_samples n xs outputs (e ∙ rows_ext n _ _ no_samples before)
+      (o ∙ ap (λ (r : List ℤ). build 8 (λ s. get_or r s (pos 0))) (sym (get_or_at samples row [] [] n long)))
     where
-      go : (t : Bool) → ltb k 128 ≡ t → get_or (build 128 (up_to (8 * n) placed)) k (pos 0) ≡ pos 0
-      go true e = get_or-build 128 (up_to (8 * n) placed) k (pos 0) (ltb-true k 128 e) ∙ rw (le-ltb k (8 * n) h)
-      go false e = get_or-build-out 128 (up_to (8 * n) placed) k (pos 0) (ltb-false k 128 e)
+      more : List (List ℤ)
+      more = samples ++ (row ∷ [])
 
-  -- an array that holds them and zeros behind them is that array
-  pub array-is : (xs : List ℤ) → length xs ≡ 128 → SamplesIn n samples xs → ((k : ℕ) → 8 * n ≤ k → get_or xs k (pos 0) ≡ pos 0)
-      → xs ≡ samples_array n samples
+      before : (b : ℕ) → b < n → build 8 (sample_at samples b) ≡ build 8 (sample_at more b)
+      before b h = ap (λ (r : List ℤ). build 8 (λ s. get_or r s (pos 0))) (sym (get_or-append samples (row ∷ []) [] b (omega arith)))
+
+  pub length_array : length (samples_array n samples) ≡ 16
   unfolding samples_array
-  array-is xs long held zeros = sym (build-is 128 (up_to (8 * n) placed) xs (pos 0) long (λ k _. here k))
-    where
-      here : (k : ℕ) → up_to (8 * n) placed k ≡ get_or xs k (pos 0)
-      here k =
-          let whole : 8 * (k / 8) + k % 8 ≡ k = omega arith in
-          by-test (λ z. z ≡ get_or xs k (pos 0)) (ltb k (8 * n)) (placed k) (pos 0)
-          (λ e. sym (held (k / 8) (k % 8) (omega (arith, ltb-true k (8 * n) e)) (omega arith)) ∙ ap (λ (i : ℕ). get_or xs i (pos 0)) whole)
-          (λ e. sym (zeros k (ltb-false k (8 * n) e)))
+  length_array = length_rows _ no_samples n
+
+  -- it holds them
+  pub array_holds : n ≤ 16 → SamplesIn n samples (samples_array n samples)
+  unfolding samples_array
+  array_holds most b s h k =
+      ap (λ (row : List ℤ). get_or row s (pos 0)) (row_in _ no_samples n b h most) ∙ get_or-build 8 (sample_at samples b) s (pos 0) k

@@ -7,7 +7,7 @@ pub mod Written
 pub mod Placed
 pub mod Reading
 pub mod Coding
-pub mod Blocks
+pub mod ByBlock
 pub mod Columns
 pub mod Flagged
 pub mod Rows

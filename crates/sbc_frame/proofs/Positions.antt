@@ -5,7 +5,7 @@ use Prim.Native.Nat.{ℕ, zero, suc, ◌+◌, ◌-◌, ◌*◌, ◌%◌, ◌≤�
 use mathlib.Core.Path.{◌≡◌, ap, ◌∙◌}
 use mathlib.Core.Logic.{◌⊎◌, inl, inr}
 use mathlib.Core.Bool.{true}
-use mathlib.Core.List.{List, [], ◌∷◌}
+use mathlib.Core.List.{List, []}
 use native.Mathlib.Nat.{le_refl, le_of_suc-le-suc, eq-or-lt_of_le, mul_comm, mul_assoc, suc-mul, mul-suc, mul-le-mul_right}
 use native.Mathlib.Omega.{arith}
 use lib.ListN.{length, get_or}
@@ -96,10 +96,7 @@ module _ (p : SbcParameters) (a : accepted p ≡ true) where
       )
 
   -- ---- the body
-  module _ (left right : List ℕ) (l : length left ≡ 8) (r : length right ≡ 8) where
-    abbrev factors : List (List ℕ)
-    factors = left ∷ right ∷ []
-
+  module _ (factors : List (List ℕ)) (long : (c : ℕ) → c < 2 → length (get_or factors c []) ≡ 8) where
     -- it has the bits that the sizes count
     body-width : body_width p (allocation_table p factors) ≡ side_bits p + p.blocks * block_bits p
     unfolding side_bits
@@ -107,7 +104,7 @@ module _ (p : SbcParameters) (a : accepted p ≡ true) where
         omega (
           arith,
           one-and-others p.subbands (channels p) (channels-range p).0,
-          ap (λ (n : ℕ). p.blocks * n) (rows-width p a factors (rows-enough p a left right l r)),
+          ap (λ (n : ℕ). p.blocks * n) (rows-width p a factors (rows-enough p a factors long)),
         )
 
     -- and fills the bytes behind the checksum but for fewer than eight bits

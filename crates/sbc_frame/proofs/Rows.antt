@@ -1,6 +1,6 @@
--- A row of eight that a loop fills from the front: nothing filled yet, one entry more, and all.
+-- A row of eight that a loop fills from the front: nothing filled yet, and one entry more.
 -- Assumes nothing.
-use Prim.Native.Nat.{ℕ, ◌+◌, ◌≤◌}
+use Prim.Native.Nat.{ℕ, ◌+◌}
 use mathlib.Core.Path.{◌≡◌, refl, sym, ap, ◌∙◌}
 use mathlib.Core.List.{List}
 use native.Mathlib.Omega.{arith}
@@ -9,7 +9,6 @@ use lib.ListN.{set, replicate}
 use borrow.Author.Tests.{lt-ltb, le-ltb, ltb-true, ltb-false}
 use Rattle.laws.specs.Lists.{build, collect}
 use Rattle.laws.proofs.Cases.{by-test}
-use Rattle.laws.proofs.Lists.{build-ext}
 use Rattle.laws.proofs.Arrays.{build-set}
 use Rattle.sbc_frame.specs.Arrays.{below}
 
@@ -25,6 +24,3 @@ module _ (f : ℕ → ℕ) where
       (λ k ne. by-test (λ (z : ℕ). z ≡ below (s + 1) f k) (ltb k s) (f k) 0
       (λ t. sym (rw (lt-ltb k (s + 1) (omega (arith, ltb-true k s t)))))
       (λ t. sym (rw (le-ltb k (s + 1) (omega (arith, ltb-false k s t))))))
-
-  pub row-all : (s : ℕ) (row : List ℕ) → 8 ≤ s → row ≡ build 8 (below s f) → row ≡ build 8 f
-  row-all s row h e = e ∙ build-ext 8 (below s f) f (λ k p. rw (lt-ltb k s (omega arith)))

@@ -68,10 +68,9 @@ abbrev pub Enough : SbcParameters → List (List ℕ) → Type 0
 Enough p factors = (c : ℕ) → c < channels p → p.subbands ≤ length (get_or factors c [])
 
 -- two rows of eight do
-pub rows-enough : (p : SbcParameters) → accepted p ≡ true → (left right : List ℕ) → length left ≡ 8 → length right ≡ 8 → Enough p (left ∷ right ∷ [])
-rows-enough p a left right l r zero hc = omega (arith, (ranges p a).subbands-high)
-rows-enough p a left right l r (suc zero) hc = omega (arith, (ranges p a).subbands-high)
-rows-enough p a left right l r (suc (suc c)) hc = absurd (omega (arith, (channels-range p).1))
+pub rows-enough : (p : SbcParameters) → accepted p ≡ true → (rows : List (List ℕ)) → ((c : ℕ) → c < 2 → length (get_or rows c []) ≡ 8)
+    → Enough p rows
+rows-enough p a rows long c hc = omega (arith, long c (omega (arith, (channels-range p).1)), (ranges p a).subbands-high)
 
 module _ (p : SbcParameters) (factors : List (List ℕ)) (a : accepted p ≡ true) (enough : Enough p factors) where
   row-sum : (c : ℕ) → sum (map (entry_at (allocate p factors)) (places_of p.subbands c)) ≡ channel_width p factors c

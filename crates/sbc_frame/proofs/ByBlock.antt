@@ -5,7 +5,7 @@ use mathlib.Core.Path.{◌≡◌, refl, sym, ap, ◌∙◌, subst}
 use mathlib.Core.Bool.{true}
 use mathlib.Core.Logic.{inl, inr, ⊎_elim}
 use mathlib.Core.List.{List, [], ◌∷◌, ◌++◌, append_assoc, append-nil}
-use native.Mathlib.Nat.{zero-mul, suc-mul, mul_comm, mul-le-mul_right}
+use native.Mathlib.Nat.{zero-mul, suc-mul, mul-le-mul_right}
 use native.Mathlib.Numerals.{add-one}
 use native.Mathlib.Omega.{arith}
 use lib.IntN.{ℤ}
@@ -111,12 +111,6 @@ asked p c C n a e h l = (
 pub place-before : (C from k n : ℕ) → k < n → (from + k) * C + C ≤ (from + n) * C
 place-before C from k n h =
     let q : suc (from + k) * C ≤ (from + n) * C = mul-le-mul_right C (omega arith) in omega (arith, suc-mul (from + k) C)
-
--- the output has room for a block, as the code counts its places
-pub block_room : (S T b C n : ℕ) → T ≡ S → (b + 1) * T * C ≤ n → (S * b + S) * C ≤ n
-block_room S T b C n e h =
-    let q : (b + 1) * T ≡ S * b + S = rw (e, add-one) (omega (arith, suc-mul b S, mul_comm S b)) in
-    subst (λ (k : ℕ). k * C ≤ n) q h
 
 -- ---- a block
 -- not 4 subbands are 8
