@@ -1,47 +1,44 @@
--- The rows of eight of scale factors, filled entry by entry.
+-- The greatest absolute values of the subbands, block by block, and their scale factors.
 -- Assumes nothing.
 use Prim.Native.Nat.{ℕ, ◌+◌, ◌<◌, max}
-use mathlib.Core.Path.{◌≡◌, refl, ap, ◌∙◌}
-use mathlib.Core.List.{List}
+use mathlib.Core.Path.{◌≡◌, refl, ap, ap₂, ◌∙◌}
+use mathlib.Core.List.{List, []}
 use native.Mathlib.Numerals.{add-one}
-use lib.ListN.{replicate}
-use lib.IntN.{ℤ, nat_abs}
+use native.Mathlib.Omega.{arith}
+use lib.ListN.{length, get_or, take, replicate, length-take}
+use lib.Seq.{get_or-take}
+use lib.IntN.{ℤ, pos, nat_abs}
 use Rattle.laws.specs.Lists.{build, collect, greatest}
 use Rattle.laws.proofs.Lists.{get_or-build, build-ext}
 use Rattle.sbc_quantizer.specs.Quantizing.{scale_factor}
-use Rattle.sbc_frame.specs.Arrays.{entry, sample_in}
-use Rattle.sbc_factors.specs.Factors.{maxima_in}
-
--- ---- the greatest absolute values, and the scale factors
+use Rattle.sbc_frame.specs.Arrays.{entry}
+use Rattle.sbc_frame.specs.Encoding.{sample_at}
+use Rattle.sbc_factors.specs.Factors.{maximum_in, maxima_in, raised}
 
 -- the greatest of none
-pub maxima-none : (xs : List ℤ) → replicate 8 0 ≡ maxima_in 0 xs
+pub maxima_none : (xs : List (List ℤ)) → maxima_in 0 xs ≡ replicate 8 0
 unfolding maxima_in greatest build collect
-maxima-none xs = refl
+maxima_none xs = refl
 
 -- a subband's entry
-maximum-at : (n : ℕ) (xs : List ℤ) (s : ℕ) → s < 8 → entry (maxima_in n xs) s ≡ greatest n (λ b. nat_abs (sample_in xs b s))
+maximum-at : (n : ℕ) (xs : List (List ℤ)) (s : ℕ) → s < 8 → entry (maxima_in n xs) s ≡ maximum_in n xs s
 unfolding maxima_in
-maximum-at n xs s h = get_or-build 8 (λ t. greatest n (λ b. nat_abs (sample_in xs b t))) s 0 h
+maximum-at n xs s h = get_or-build 8 (maximum_in n xs) s 0 h
 
 -- one more
 greatest-next : (n : ℕ) (f : ℕ → ℕ) → max (greatest n f) (f n) ≡ greatest (n + 1) f
 unfolding greatest
 greatest-next n f = rw add-one
 
--- one block more
-pub maxima-next : (n : ℕ) (xs : List ℤ) (top : List ℕ) → top ≡ maxima_in n xs
-    → build 8 (λ s. max (entry top s) (nat_abs (sample_in xs n s))) ≡ maxima_in (n + 1) xs
-unfolding maxima_in
-maxima-next n xs top e =
-    build-ext 8 (λ s. max (entry top s) (nat_abs (sample_in xs n s))) (λ s. greatest (n + 1) (λ b. nat_abs (sample_in xs b s)))
-    (λ s h. ap (λ (m : ℕ). max m (nat_abs (sample_in xs n s))) (ap (λ (row : List ℕ). entry row s) e ∙ maximum-at n xs s h)
-    ∙ greatest-next n (λ b. nat_abs (sample_in xs b s)))
+-- one block more, of the first m
+pub maxima_next : (m n : ℕ) (xs : List (List ℤ)) → n < length (take m xs)
+    → raised (maxima_in n xs) (get_or (take m xs) n []) ≡ maxima_in (n + 1) xs
+unfolding raised maxima_in
+maxima_next m n xs h =
+    build-ext 8 _ (maximum_in (n + 1) xs)
+    (λ s k. ap₂ (λ (i : ℕ) (row : List ℤ). max i (nat_abs (get_or row s (pos 0)))) (maximum-at n xs s k)
+    (get_or-take m xs n [] (omega (arith, length-take m xs))) ∙ greatest-next n (λ b. nat_abs (sample_at xs b s)))
 
--- the scale factor of a subband
-abbrev pub factor_at : ℕ → List ℤ → ℕ → ℕ
-factor_at n xs s = scale_factor (greatest n (λ b. nat_abs (sample_in xs b s)))
-
--- it is that of the subband's entry
-pub factor-of : (n : ℕ) (xs : List ℤ) (top : List ℕ) (s : ℕ) → top ≡ maxima_in n xs → s < 8 → scale_factor (entry top s) ≡ factor_at n xs s
-factor-of n xs top s e h = ap scale_factor (ap (λ (row : List ℕ). entry row s) e ∙ maximum-at n xs s h)
+-- the scale factor of a subband's entry
+pub factor_of : (n : ℕ) (xs : List (List ℤ)) (s : ℕ) → s < 8 → scale_factor (entry (maxima_in n xs) s) ≡ scale_factor (maximum_in n xs s)
+factor_of n xs s h = ap scale_factor (maximum-at n xs s h)

@@ -11,4 +11,3 @@ pub mod ByBlock
 pub mod Columns
 pub mod Flagged
 pub mod Rows
-pub mod Made
