@@ -77,11 +77,12 @@ set-small (b ∷ bs) (suc i) x hx h (suc k) = set-small bs i x hx (λ j. h (suc 
 
 -- ---- the writer's turns
 -- the n high ones of the `left` bits go into one byte, and then the others behind them: as if all were written at once
-pub overwritten-step : (bytes : List ℕ) (at value left n x : ℕ) → at + left ≤ 8 * length bytes → 0 < n → n ≤ left → at % 8 + n ≤ 8
+pub overwritten-step : (bytes : List ℕ) (at value left n x : ℕ)
+    → at + left ≤ 8 * length bytes → at / 8 < length bytes → n ≤ left → at % 8 + n ≤ 8
     → x ≡ number_of (put (bits_of 8 (get_or bytes (at / 8) 0)) (at % 8) n (bits_of n (value / 2 ^ (left - n))))
     → overwritten (set bytes (at / 8) x) (at + n) value (left - n) ≡ overwritten bytes at value left
 unfolding overwritten
-overwritten-step bytes at value left n x room some most fits is =
+overwritten-step bytes at value left n x room there most fits is =
     let i : ℕ = at / 8 in
     let bits : List Bool = bits_of_bytes bytes in
     let high : List Bool = bits_of n (value / 2 ^ (left - n)) in

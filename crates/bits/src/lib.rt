@@ -41,6 +41,8 @@ fn window(bytes: &[u8]) -> u64
 }
 
 // The number that `count` bits from bit `position` on write.
+// Kept: a body of its own beside sbc_read's `number_at`, which has the same definition: this is the general one. That one
+// reads four bytes of a padded frame, in 14 instructions where `read_at` takes 41 (docs/DECISIONS.md, 44).
 fn number_at(bytes: &[u8], position: usize, count: u32) -> u32
     requires { (count ≤ 32) × (position + count ≤ 8 * length bytes.now) }
     ensures { result ≡ number_at bytes.now position count }
@@ -55,6 +57,8 @@ fn number_at(bytes: &[u8], position: usize, count: u32) -> u32
 }
 
 // `count` bits from bit `position` on: 0 for no bits, and Incomplete past the end.
+// Kept: the bytes and the position as two parameters, here and in `write_at`: document 01 names the form, "thin over a
+// function on slice and number". The struct of both is `bitstream`'s.
 #[tactic(auto, using(crate::proofs::Ends::inside_true), unfolding(crate::specs::Fields::told_read, crate::specs::Fields::read_at))]
 pub fn read_at(bytes: &[u8], position: usize, count: u32) -> Result<Read, Error>
     ensures { told_read position result ≡ read_at bytes.now position count }
@@ -72,7 +76,7 @@ pub fn read_at(bytes: &[u8], position: usize, count: u32) -> Result<Read, Error>
 }
 
 // The byte whose `n` bits behind its first `offset` are the low `n` bits of `value`.
-fn with_bits(byte: u8, offset: u32, value: u32, n: u32) -> u8
+fn with_bits(byte: u8, offset: usize, value: u32, n: usize) -> u8
     requires { offset + n ≤ 8 }
     ensures { result ≡ number_of (take offset (bits_of 8 byte) ++ (bits_of n value ++ drop (offset + n) (bits_of 8 byte))) }
 {
@@ -86,22 +90,19 @@ fn with_bits(byte: u8, offset: u32, value: u32, n: u32) -> u8
     ((before * span + written) * unit + behind) as u8
 }
 
-// The low `count` bits of `value` in place of those from bit `position` on. At bit `at` with `left` bits still to write, as many as the
-// byte has room for go into it: the high ones of the low `left` bits.
+// The low `count` bits of `value` in place of those from bit `position` on. At byte i the low `left` bits are still to
+// write: as many as the byte has room for go into it, the high ones of them.
 fn overwrite(bytes: &mut [u8], position: usize, value: u32, count: u32)
     requires { (count ≤ 32) × (position + count ≤ 8 * length bytes.old) × (position + count < 2 ^ 64) }
     ensures { bytes.new ≡ overwritten bytes.old position value count }
 {
-    let mut at = position;
-    let mut left = count;
-    // Kept: a `while`, since no index is counted: each turn writes as many bits as a byte has room for.
-    while 0 < left {
-        let offset = (at % 8) as u32;
+    let end = position + count as usize;
+    for i in position / 8..end.div_ceil(8) {
+        let at = position.max(8 * i);
+        let left = end - at;
+        let offset = at % 8;
         let n = left.min(8 - offset);
-        let i = at / 8;
         bytes[i] = with_bits(bytes[i], offset, value >> (left - n), n);
-        at += n as usize;
-        left -= n;
     }
 }
 

@@ -1,4 +1,5 @@
--- The channel modes and the allocations, each list in the order of its index in the header, and what a mode says. From document 01, "Parameters".
+-- The channel modes and the allocations, each list in the order of its index in the header, and what a mode says. From
+-- document 01, "Parameters".
 use Rattle.std.specs.Prelude.{ℕ, Bool, true, false, List, [], ◌∷◌}
 use Rattle.sbc_modes.specs.declared.SbcChannelMode.{SbcChannelMode}
 use Rattle.sbc_modes.specs.declared.SbcChannelMode.TheVariants.{Mono, DualChannel, Stereo, JointStereo}

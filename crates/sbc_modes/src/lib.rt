@@ -54,7 +54,8 @@ impl SbcChannelMode {
     }
 
     // The mode of a number in the header; every number past 2 counts as 3.
-    // Kept: no number is refused, so it is no TryFrom, and four modes cannot give back 256 numbers, so From would say too much.
+    // Kept: no number is refused, so that it is no TryFrom. A From is for what loses nothing, and this takes 253 numbers as
+    // joint stereo.
     #[tactic(auto, using(crate::proofs::Numbers::mode_rest), unfolding(crate::specs::Modes::channel_modes))]
     pub fn from_number(number: u8) -> SbcChannelMode
         ensures { result ≡ get_or channel_modes number JointStereo }
@@ -84,7 +85,7 @@ impl From<SbcChannelMode> for u8 {
 
 impl SbcAllocation {
     // The allocation of a number in the header; every number past 0 counts as 1.
-    // Kept: as the mode of a number.
+    // Kept: as the mode of a number: 255 numbers are taken as SNR.
     #[tactic(auto, using(crate::proofs::Numbers::allocation_rest), unfolding(crate::specs::Modes::allocations))]
     pub fn from_number(number: u8) -> SbcAllocation
         ensures { result ≡ get_or allocations number Snr }

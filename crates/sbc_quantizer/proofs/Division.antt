@@ -1,13 +1,13 @@
--- A division by L = 2 ^ b - 1 as a multiplication and a shift: 2 ^ s is floor (2 ^ s / L) times L and leaves 2 ^ (s % b), and m times what it
--- leaves, divided by L, is m shifted right by b - s % b, if m is at most half of 2 ^ b.
+-- A division by L = 2 ^ b - 1 as a multiplication and a shift: 2 ^ s is floor (2 ^ s / L) times L and leaves 2 ^ (s % b),
+-- and m times what it leaves, divided by L, is m shifted right by b - s % b, if m is at most half of 2 ^ b.
 -- Assumes nothing.
 use mathlib.Core.Path.{◌≡◌, sym, ap, ap₂, ◌∙◌, subst}
 use Prim.Native.Nat.{ℕ, zero, suc, ◌+◌, ◌*◌, ◌-◌, ◌/◌, ◌%◌, ◌^◌, ◌≤◌, ◌<◌}
 use native.Mathlib.Nat.{add-zero, zero-add, zero-mul, mul-zero, suc-mul, mul-suc, mul_comm, mul_left_comm, mul_right_comm, mul_assoc}
 use native.Mathlib.Nat.{add-mul, mul-add, mul-le-mul_left, le_of_mul-le-mul_right, div-add-mod', mod-lt, zero-div, div-zero, div-one}
-use native.Mathlib.Nat.{mul-add-div_right, div-eq_of_lt, div-le_of_le-mul}
+use native.Mathlib.Nat.{mul-add-div_right, div-eq_of_lt, div-le_of_le-mul, div-div-eq-div-mul}
 use native.Mathlib.Omega.{arith}
-use lib.Pow.{pow_pos, pow-add, pow_mono}
+use lib.Pow.{pow_pos, pow-add, pow_mono, shl-shr}
 use lib.Arith.{digits_div}
 
 pub double : (b : ℕ) → 0 < b → 2 ^ b ≡ 2 * 2 ^ (b - 1)
@@ -117,3 +117,12 @@ pub fast-le : (s b m : ℕ) → 2 * m ≤ 2 ^ b → 2 ^ s * m / (2 ^ b - 1) ≤ 
 fast-le s b m k =
     let g : m ≤ 2 ^ b - 1 = omega (arith, pow_pos b) in
     div-le_of_le-mul (2 ^ b - 1) (rw (mul_comm (2 ^ b - 1) (2 ^ s)) (mul-le-mul_left (2 ^ s) g))
+
+-- ---- a power divided by L and then shifted: s bits of 31 are left of the quotient
+pub shifted : (s L : ℕ) → s ≤ 31 → 2 ^ 31 / L / 2 ^ (31 - s) ≡ 2 ^ s / L
+shifted s L h =
+    let e : 31 ≡ s + (31 - s) = omega arith in
+    let p : 2 ^ 31 ≡ 2 ^ s * 2 ^ (31 - s) = ap (λ (x : ℕ). 2 ^ x) e ∙ pow-add 2 s (31 - s) in
+    div-div-eq-div-mul (2 ^ 31) L (2 ^ (31 - s)) ∙ ap (λ (x : ℕ). 2 ^ 31 / x) (mul_comm L (2 ^ (31 - s)))
+    ∙ sym (div-div-eq-div-mul (2 ^ 31) (2 ^ (31 - s)) L)
+    ∙ ap (λ (x : ℕ). x / L) (ap (λ (x : ℕ). x / 2 ^ (31 - s)) p ∙ shl-shr (2 ^ s) (31 - s))

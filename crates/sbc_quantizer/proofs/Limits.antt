@@ -4,12 +4,12 @@
 use mathlib.Core.Path.{◌≡◌, refl, sym, ap, ◌∙◌}
 use mathlib.Core.Bool.{Bool, true, false, false≢true}
 use Prim.Native.Nat.{ℕ, zero, suc, ◌+◌, ◌*◌, ◌/◌, ◌^◌, ◌≤◌, ◌<◌, min}
-use native.Mathlib.Nat.{mul-div_cancel_left, div-le_of_le-mul, mul-le-mul_right, zero-mul, zero-div}
+use native.Mathlib.Nat.{mul-div_cancel_left, div-le_of_le-mul, le_refl, mul-le-mul, mul-le-mul_right, zero-mul, zero-div}
 use native.Mathlib.Omega.{arith}
 use lib.IntN.{ℤ, pos, negsuc, neg_ℤ, nat_abs, ◌+ℤ◌, ◌*ℤ◌}
 use lib.Dec.{ltb}
 use lib.Signed.{le_z, lt_z}
-use lib.Pow.{pow_pos, pow-add}
+use lib.Pow.{pow_pos, pow_mono, pow-add}
 use borrow.Author.Tests.{ltb-true, ltb-false, leb-true, le-ltb}
 use Rattle.laws.specs.Integers.{floor_div}
 use Rattle.std.specs.Int.{int_max, int_min}
@@ -31,10 +31,10 @@ module _ (m : ℕ) where
       (λ e. let least : n ≡ min n m = omega (arith, ltb-false m n e) in from-0 n ∙ ap pos least)
   held_is (negsuc n) = refl
 
-  pub held-le : (z : ℤ) → held_between m z ≤ m
+  pub held_le : (z : ℤ) → held_between m z ≤ m
   unfolding held_between
-  held-le (pos n) = omega arith
-  held-le (negsuc n) = omega arith
+  held_le (pos n) = omega arith
+  held_le (negsuc n) = omega arith
 
 -- ---- a sample raised by the limit, by the tests of the definition
 module _ (limit : ℕ) where
@@ -63,9 +63,9 @@ twice f = let e : 2 ^ (f + 14) ≡ 2 ^ f * 16384 = pow-add 2 f 14 in let g : 2 ^
 
 module _ (x : ℤ) (f b : ℕ) where
   -- the three cases in one
-  pub quantize-held : quantize x f b ≡ held_between (2 ^ (f + 13) + 2 ^ (f + 13)) (x +ℤ pos (2 ^ (f + 13))) * levels b / 2 ^ (f + 14)
+  pub quantize_held : quantize x f b ≡ held_between (2 ^ (f + 13) + 2 ^ (f + 13)) (x +ℤ pos (2 ^ (f + 13))) * levels b / 2 ^ (f + 14)
   unfolding quantize
-  quantize-held = go (le_z (pos (2 ^ (f + 13))) x) refl (lt_z x (neg_ℤ (pos (2 ^ (f + 13))))) refl
+  quantize_held = go (le_z (pos (2 ^ (f + 13))) x) refl (lt_z x (neg_ℤ (pos (2 ^ (f + 13))))) refl
     where
       go : (s : Bool) → le_z (pos (2 ^ (f + 13))) x ≡ s → (t : Bool) → lt_z x (neg_ℤ (pos (2 ^ (f + 13)))) ≡ t →
           quantize x f b ≡ held_between (2 ^ (f + 13) + 2 ^ (f + 13)) (x +ℤ pos (2 ^ (f + 13))) * levels b / 2 ^ (f + 14)
@@ -75,8 +75,22 @@ module _ (x : ℤ) (f b : ℕ) where
           rw (h, k) (ap (λ (z : ℤ). nat_abs (floor_div (z *ℤ pos (levels b)) (2 ^ (f + 14)))) (sym (within (2 ^ (f + 13)) x h k)))
 
   quantize-le : quantize x f b ≤ levels b
-  quantize-le = rw (quantize-held, twice) (div-le_of_le-mul _ (mul-le-mul_right (levels b) (held-le _ _)))
+  quantize-le = rw (quantize_held, twice) (div-le_of_le-mul _ (mul-le-mul_right (levels b) (held_le _ _)))
 
   -- a quantized value has b bits
   pub quantize-lt : quantize x f b < 2 ^ b
   quantize-lt = omega (arith, quantize-le, pow_pos b)
+
+-- the product fits, and so does its quotient, by a shift that twice the limit does not pass
+module _ (z : ℤ) (b : ℕ) (h : b ≤ 16) where
+  pub product_fits : (limit : ℕ) → limit ≤ 2 ^ 32 → held_between (limit + limit) z * levels b ≤ 2 ^ 33 * 2 ^ 16
+  product_fits limit k =
+      let raised : held_between (limit + limit) z ≤ 2 ^ 33 = omega (arith, held_le (limit + limit) z) in
+      let most : levels b ≤ 2 ^ 16 = omega (arith, pow_mono h) in
+      mul-le-mul raised most
+
+  pub quotient_fits : (e s : ℕ) → e < s → held_between (2 ^ e + 2 ^ e) z * levels b / 2 ^ s < 65536
+  quotient_fits e s room =
+      let raised : held_between (2 ^ e + 2 ^ e) z ≤ 2 ^ s = omega (arith, held_le (2 ^ e + 2 ^ e) z, pow_mono room, pow-add 2 e 1) in
+      let most : levels b < 65536 = omega (arith, pow_mono h) in
+      omega (arith, most, div-le_of_le-mul (2 ^ s) (mul-le-mul raised (le_refl (levels b))))

@@ -9,8 +9,8 @@ unfoldable pub held_between : ℕ → ℤ → ℕ
 held_between m (pos n) = min n m
 held_between m (negsuc n) = 0
 
--- the `Dequantizer` for f and b: 2 ^ (f + 12) / L rounded down, the shift of a number of steps that makes up for the rounding, and the value
--- that reconstructs to 0; all 0 for 0 bits
+-- the `Dequantizer` for f and b: 2 ^ (f + 12) / L rounded down, the shift of a number of steps that makes up for the
+-- rounding, and the value that reconstructs to 0; all 0 for 0 bits
 unfoldable pub dequantizer : ℕ → ℕ → Dequantizer
 dequantizer f b = record { multiplier = 2 ^ (f + 12) / levels b; tail = b - (f + 12) % b; offset = 2 ^ (b - 1) - 1 }
 

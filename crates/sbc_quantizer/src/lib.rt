@@ -8,8 +8,8 @@ ghost use Rattle.sbc_quantizer.specs.Dequantizing.{held_between, dequantizer, De
 
 use laws::power_of_two;
 
-// The scale factor of a subband whose greatest absolute value is `maximum`. Between the least factor and the greatest, it is the factor f for
-// which `maximum` has f + 13 binary digits, so that no search is needed.
+// The scale factor of a subband whose greatest absolute value is `maximum`. Between the least factor and the greatest, it
+// is the factor f for which `maximum` has f + 13 binary digits, so that no search is needed.
 pub fn scale_factor(maximum: u32) -> u8
     ensures { result ≡ scale_factor maximum }
 {
@@ -27,27 +27,30 @@ fn levels(bits: u8) -> u32
     requires { bits < 32 }
     ensures { result ≡ levels bits }
 {
-    power_of_two(bits as u32) - 1
+    power_of_two(u32::from(bits)) - 1
 }
 
 // sample + limit, held between 0 and twice the limit: a sample outside the limits is then quantized like one at a limit.
+#[tactic(auto, using(crate::proofs::Limits::held_is))]
 fn raised(sample: i32, limit: u32) -> i64
     ensures { result ≡ pos (held_between (limit + limit) (sample +ℤ pos limit)) }
 {
-    let sum = (sample as i64) + (limit as i64);
-    let top = (limit as i64) + (limit as i64);
+    let sum = i64::from(sample) + i64::from(limit);
+    let top = i64::from(limit) + i64::from(limit);
     sum.clamp(0, top)
 }
 
 // The quantized value of a sample.
-// Kept: the factor and the number of bits are two parameters. Callers have them in two rows of a frame: a struct of both would live for one call.
+// Kept: the factor and the number of bits are two parameters. Callers have them in two rows of a frame, so that a struct of both would
+// live for one call.
+#[tactic(auto, using(crate::proofs::Limits::quantize_held, crate::proofs::Limits::product_fits, crate::proofs::Limits::quotient_fits))]
 pub fn quantize(sample: i32, scale_factor: u8, bits: u8) -> u32
     requires { (scale_factor ≤ 15) × (bits ≤ 16) }
     ensures { result ≡ quantize sample scale_factor bits }
 {
-    let limit = power_of_two(scale_factor as u32 + 13);
-    let product = (raised(sample, limit) as u64) * (levels(bits) as u64);
-    (product >> (scale_factor as u32 + 14)) as u32
+    let limit = power_of_two(u32::from(scale_factor) + 13);
+    let product = (raised(sample, limit) as u64) * u64::from(levels(bits));
+    (product >> (u32::from(scale_factor) + 14)) as u32
 }
 
 // 2 ^ 31 / (2 ^ bits - 1), rounded down. A `match` is compiled to a table in memory;
@@ -96,6 +99,7 @@ pub struct Dequantizer {
 
 impl Dequantizer {
     // For the values of so many bits at a scale factor.
+    #[tactic(auto, using(crate::proofs::Division::shifted), unfolding(crate::specs::Dequantizing::dequantizer))]
     pub fn new(bits: u8, scale_factor: u8) -> Self
         requires { (bits ≤ 16) × (scale_factor ≤ 15) }
         ensures { result ≡ dequantizer scale_factor bits }
@@ -110,8 +114,8 @@ impl Dequantizer {
         let shift = scale_factor + 12;
         Self {
             multiplier: reciprocal(bits) >> (31 - shift),
-            tail: (bits - shift % bits) as u32,
-            offset: power_of_two(bits as u32 - 1) - 1,
+            tail: u32::from(bits - shift % bits),
+            offset: power_of_two(u32::from(bits) - 1) - 1,
         }
     }
 
