@@ -15,17 +15,17 @@ use Rattle.sbc_frame.specs.Encoding.{sample_at}
 use Rattle.sbc_frame.specs.Arrays.{entry, no_samples, samples_array, with_flagged}
 use Rattle.sbc_frame.proofs.Columns.{rows_none, rows_next, row_in, row_out, rows_again, array_holds}
 
+-- no block yet
+pub flagged_none : (flags : List ℕ) (f : ℕ → ℕ → ℤ) (xs : List (List ℤ)) → length xs ≡ 16 → xs ≡ with_flagged 0 flags f xs
+unfolding with_flagged
+flagged_none flags f xs long = rows_none _ xs long
+
 module _ (n : ℕ) (flags : List ℕ) (f : ℕ → ℕ → ℤ) where
   -- the samples of a block
   abbrev flagged_at : List (List ℤ) → ℕ → ℕ → ℤ
   flagged_at xs b s = if eqb (entry flags s) 1 then f b s else sample_at xs b s
 
   module _ (xs : List (List ℤ)) where
-    -- no block yet
-    pub flagged_none : length xs ≡ 16 → xs ≡ with_flagged 0 flags f xs
-    unfolding with_flagged
-    flagged_none long = rows_none _ xs long
-
     -- the next block is still the old one
     pub flagged_row : (ys : List (List ℤ)) → ys ≡ with_flagged n flags f xs → n < 16 → get_or ys n [] ≡ get_or xs n []
     unfolding with_flagged
