@@ -1,5 +1,6 @@
--- The share theorem, specs/Shares.antt. A group's places are the entries of one list of needs and of the list of its shares (`Spot`), of which
--- proofs/Sharing.antt proves what the theorem says of places. In stereo and joint stereo the place of subband i of channel c is entry 2 * i + c.
+-- The share theorem, specs/Shares.antt. A group's places are the entries of one list of needs and of the list of its
+-- shares (`Spot`), of which proofs/Sharing.antt proves what the theorem says of places. In stereo and joint stereo the
+-- place of subband i of channel c is entry 2 * i + c.
 -- Assumes nothing.
 use mathlib.Core.Path.{◌≡◌, refl, sym, ap, ap₂, ◌∙◌, subst, subst₂}
 use mathlib.Core.Bool.{true}

@@ -1,11 +1,11 @@
 -- The rows of the allocation: one for each channel, with an entry for each subband; two of eight in the table that the code gives back. No
 -- entry is above 16, for any set and any factors. In dual channel a channel's row depends on that channel's factors alone.
 -- Assumes nothing.
-use mathlib.Core.Path.{◌≡◌, refl, ap, ◌∙◌}
+use mathlib.Core.Path.{◌≡◌, refl, ◌∙◌}
 use mathlib.Core.List.{List, [], ◌∷◌, ◌++◌}
 use Prim.Native.Nat.{ℕ, zero, suc, ◌+◌, ◌-◌, ◌≤◌, ◌<◌, min}
 use native.Mathlib.Omega.{arith}
-use lib.ListN.{length, get_or, take, replicate, length-append, length-take}
+use lib.ListN.{length, get_or, take, replicate}
 use lib.Seq.{get_or-take}
 use lib.IntN.{ℤ}
 use Rattle.laws.proofs.Lists.{length-build}
@@ -77,20 +77,6 @@ length-row p factors enough =
     rows-by p.bitpool p.subbands (channel_needs p (get_or factors 0 [])) (channel_needs p (get_or factors 1 [])) p.channel_mode
     (λ h. omega (arith, length-channel_needs p (get_or factors 0 []), enough 0 h))
     (λ h. omega (arith, length-channel_needs p (get_or factors 1 []), enough 1 h))
-
-pub length-table_row : (bits : List ℕ) → length (table_row bits) ≡ 8
-unfolding table_row
-length-table_row bits = omega (arith, length-take 8 (bits ++ replicate 8 0), length-append bits (replicate 8 0))
-
-pub length-table : (p : SbcParameters) (factors : List (List ℕ)) → length (allocation_table p factors) ≡ 2
-unfolding allocation_table
-length-table p factors = refl
-
-pub length-table-row : (p : SbcParameters) (factors : List (List ℕ)) (c : ℕ) → c < 2 → length (get_or (allocation_table p factors) c []) ≡ 8
-unfolding allocation_table
-length-table-row p factors zero h = length-table_row (get_or (allocate p factors) 0 [])
-length-table-row p factors (suc zero) h = length-table_row (get_or (allocate p factors) 1 [])
-length-table-row p factors (suc (suc c)) h = absurd (omega arith)
 
 -- ---- the table's entries are those of the rows
 padded-at : (bits : List ℕ) (n i : ℕ) → get_or (bits ++ replicate n 0) i 0 ≡ get_or bits i 0
@@ -178,10 +164,3 @@ unfolding allocate allocate_by
 dual-row p factors factors' dual zero e = rw (dual, e)
 dual-row p factors factors' dual (suc zero) e = rw (dual, e)
 dual-row p factors factors' dual (suc (suc c)) e = rw dual
-
-pub dual-table-row : (p : SbcParameters) (factors factors' : List (List ℕ)) → p.channel_mode ≡ DualChannel
-    → (c : ℕ) → get_or factors c [] ≡ get_or factors' c [] → get_or (allocation_table p factors) c [] ≡ get_or (allocation_table p factors') c []
-unfolding allocation_table
-dual-table-row p factors factors' dual zero e = ap table_row (dual-row p factors factors' dual 0 e)
-dual-table-row p factors factors' dual (suc zero) e = ap table_row (dual-row p factors factors' dual 1 e)
-dual-table-row p factors factors' dual (suc (suc c)) e = refl

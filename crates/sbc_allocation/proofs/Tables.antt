@@ -1,5 +1,5 @@
--- What the code has in arrays: a channel's needs in one of 8, both channels' in one of 16, and rows of the table, cut from a group's bits with
--- zeros behind them.
+-- What the code has in arrays: a channel's needs in one of 8, both channels' in one of 16, and rows of the table, cut
+-- from a group's bits with zeros behind them.
 -- Assumes nothing.
 use mathlib.Core.Path.{◌≡◌, refl, sym, ap, ap₂, ◌∙◌}
 use mathlib.Core.List.{List, [], ◌∷◌, ◌++◌, map, map-append}
@@ -25,8 +25,8 @@ nothing : {A : Type 0} (xs : List A) → length xs ≡ 0 → xs ≡ []
 nothing [] h = refl
 nothing (x ∷ xs) h = absurd (omega arith)
 
-pub needs-none : (p : SbcParameters) (factors : List ℕ) → length factors ≡ 8 → min p.subbands 8 ≡ 0 → channel_needs p factors ≡ []
-needs-none p factors long h = nothing (channel_needs p factors) (omega (arith, length-channel_needs p factors))
+pub needs-none : (p : SbcParameters) (factors : List ℕ) → min p.subbands 8 ≡ 0 → channel_needs p factors ≡ []
+needs-none p factors h = nothing (channel_needs p factors) (omega (arith, length-channel_needs p factors))
 
 pub share-none : (bitpool : ℕ) → share [] bitpool ≡ []
 share-none bitpool = nothing (share [] bitpool) (length-share [] bitpool)

@@ -1,8 +1,7 @@
 // The bit allocation of SBC: the needs of each channel's subbands, and the bitpool shared among those of a group.
 #![tactic(auto)]
 
-ghost use Rattle.std.specs.Prelude.{◌≡◌, [], ◌∷◌, map, ℕ, ◌+◌, ◌*◌, ◌/◌, ◌%◌, ◌≤◌, ◌<◌, min, get_or, take};
-ghost use Rattle.sbc_parameters.specs.Header.{frequency_index};
+ghost use Rattle.std.specs.Prelude.{◌≡◌, [], map, ℕ, ◌+◌, ◌*◌, ◌/◌, ◌%◌, ◌≤◌, ◌<◌, min, get_or, take};
 ghost use Rattle.sbc_need.specs.Need.{need};
 ghost use Rattle.sbc_share.specs.Share.{share};
 ghost use Rattle.sbc_share.specs.Raised.{lowered};
@@ -10,44 +9,42 @@ ghost use Rattle.sbc_allocation.specs.Allocate.{channel_needs, rows_together, ta
 ghost use Rattle.sbc_allocation.specs.Entries.{entries};
 
 use sbc_modes::SbcChannelMode;
-use sbc_need::need_at;
+use sbc_need::Needs;
 use sbc_parameters::SbcParameters;
 use sbc_share::share_bits;
 use std::array;
 
 // The need 32 higher, so that it and every level of the search is a natural number.
-fn raised_need(parameters: SbcParameters, frequency: usize, scale_factor: u8, subband: usize) -> u32
-    requires { frequency ≡ frequency_index parameters }
-    ensures { (lowered result ≡ need parameters scale_factor subband) × (result ≤ 300) × (16 ≤ result) }
+fn raised_need(needs: Needs, scale_factor: u8, subband: usize) -> u32
+    ensures { (lowered result ≡ need needs.parameters scale_factor subband) × (result ≤ 300) × (16 ≤ result) }
 {
-    (need_at(parameters, frequency, scale_factor, subband) + 32) as u32
+    (needs.need(scale_factor, subband) + 32) as u32
 }
 
 // The subbands that a row has room for: all of them, in accepted parameters.
 fn used_subbands(parameters: SbcParameters) -> usize
     ensures { result ≡ min parameters.subbands 8 }
 {
-    parameters.subbands.min(8) as usize
+    usize::from(parameters.subbands.min(8))
 }
 
 // The needs of a channel's subbands, 32 higher.
-fn channel_needs(parameters: SbcParameters, scale_factors: [u8; 8]) -> [u32; 8]
-    ensures { (map lowered (take (min parameters.subbands 8) result) ≡ channel_needs parameters scale_factors) × ((i : ℕ) → i < min parameters.subbands 8 → 16 ≤ get_or result i 0) }
+fn channel_needs(needs: Needs, scale_factors: [u8; 8]) -> [u32; 8]
+    ensures all { map lowered (take (min needs.parameters.subbands 8) result) ≡ channel_needs needs.parameters scale_factors }
+    ensures least { (i : ℕ) → i < min needs.parameters.subbands 8 → 16 ≤ get_or result i 0 }
 {
-    let mut needs = [0u32; 8];
-    let subbands = used_subbands(parameters);
-    let frequency = parameters.frequency_index();
+    let mut raised = [0u32; 8];
+    let subbands = used_subbands(needs.parameters);
     for i in 0..subbands {
-        needs[i] = raised_need(parameters, frequency, scale_factors[i], i);
+        raised[i] = raised_need(needs, scale_factors[i], i);
     }
-    needs
+    raised
 }
 
 // Left before right within a subband.
-fn both_channels(left: [u32; 8], right: [u32; 8]) -> [u32; 16]
-    ensures { result ≡ entries 16 (λ i. get_or (get_or (left ∷ right ∷ []) (i % 2) []) (i / 2) 0) }
+fn both_channels(channels: [[u32; 8]; 2]) -> [u32; 16]
+    ensures { result ≡ entries 16 (λ i. get_or (get_or channels (i % 2) []) (i / 2) 0) }
 {
-    let channels = [left, right];
     array::from_fn(|i| channels[i % 2][i / 2])
 }
 
@@ -60,32 +57,33 @@ fn row_of(bits: [u8; 16], first: usize, step: usize) -> [u8; 8]
 }
 
 // The row of a channel that is a group by itself.
-fn allocate_channel(parameters: SbcParameters, scale_factors: [u8; 8]) -> [u8; 8]
-    ensures { result ≡ table_row (share (channel_needs parameters scale_factors) parameters.bitpool) }
+fn allocate_channel(needs: Needs, scale_factors: [u8; 8]) -> [u8; 8]
+    ensures { result ≡ table_row (share (channel_needs needs.parameters scale_factors) needs.parameters.bitpool) }
 {
-    let subbands = used_subbands(parameters);
+    let set = needs.parameters;
+    let subbands = used_subbands(set);
     // With no subbands, which no accepted set has, there is no level to search.
     if subbands == 0 {
         return [0u8; 8];
     }
-    let needs = channel_needs(parameters, scale_factors);
-    let bits = share_bits(&needs[..subbands], u32::from(parameters.bitpool));
+    let raised = channel_needs(needs, scale_factors);
+    let bits = share_bits(&raised[..subbands], u32::from(set.bitpool));
     row_of(bits, 0, 1)
 }
 
 // The rows of both channels, which are one group.
-fn allocate_channels(parameters: SbcParameters, left: [u8; 8], right: [u8; 8]) -> [[u8; 8]; 2]
-    ensures { result ≡ map table_row (rows_together parameters.bitpool (channel_needs parameters left) (channel_needs parameters right)) }
+fn allocate_channels(needs: Needs, scale_factors: [[u8; 8]; 2]) -> [[u8; 8]; 2]
+    ensures { result ≡ map table_row (rows_together needs.parameters.bitpool (channel_needs needs.parameters (get_or scale_factors 0 [])) (channel_needs needs.parameters (get_or scale_factors 1 []))) }
 {
-    let subbands = used_subbands(parameters);
+    let set = needs.parameters;
+    let subbands = used_subbands(set);
     // As in `allocate_channel`.
     if subbands == 0 {
         return [[0u8; 8], [0u8; 8]];
     }
-    let left_needs = channel_needs(parameters, left);
-    let right_needs = channel_needs(parameters, right);
-    let needs = both_channels(left_needs, right_needs);
-    let bits = share_bits(&needs[..2 * subbands], u32::from(parameters.bitpool));
+    let [left, right] = scale_factors;
+    let raised = both_channels([channel_needs(needs, left), channel_needs(needs, right)]);
+    let bits = share_bits(&raised[..2 * subbands], u32::from(set.bitpool));
     [row_of(bits, 0, 2), row_of(bits, 1, 2)]
 }
 
@@ -95,15 +93,16 @@ fn allocate_channels(parameters: SbcParameters, left: [u8; 8], right: [u8; 8]) -
 pub fn allocate(parameters: SbcParameters, scale_factors: [[u8; 8]; 2]) -> [[u8; 8]; 2]
     ensures { result ≡ allocation_table parameters scale_factors }
 {
+    let needs = Needs::from(parameters);
     let [left, right] = scale_factors;
     match parameters.channel_mode {
-        SbcChannelMode::Mono => [allocate_channel(parameters, left), [0u8; 8]],
+        SbcChannelMode::Mono => [allocate_channel(needs, left), [0u8; 8]],
         SbcChannelMode::DualChannel => [
-            allocate_channel(parameters, left),
-            allocate_channel(parameters, right),
+            allocate_channel(needs, left),
+            allocate_channel(needs, right),
         ],
         SbcChannelMode::Stereo | SbcChannelMode::JointStereo => {
-            allocate_channels(parameters, left, right)
+            allocate_channels(needs, scale_factors)
         }
     }
 }

@@ -1,2 +1,2 @@
 -- Laws of the loudness offsets and of the needs. For `sbc_allocation`: a need and 32 is a natural number.
-pub mod Needs
+pub mod Bounds

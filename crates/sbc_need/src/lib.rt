@@ -5,34 +5,11 @@ ghost use Rattle.std.specs.Prelude.{◌≡◌, [], ◌≤◌, get_or, pos};
 ghost use Rattle.std.specs.Int.Signed.{mag};
 ghost use Rattle.sbc_parameters.specs.Header.{frequency_index};
 ghost use Rattle.sbc_tables.specs.Tables.{loudness_offsets};
-ghost use Rattle.sbc_need.specs.Need.{halved, loudness_need, need};
+ghost use Rattle.sbc_need.specs.Need.{halved, loudness_need, loudness_offset, need};
 
 use sbc_modes::SbcAllocation;
 use sbc_parameters::SbcParameters;
 use sbc_tables::{Bank, Eight, Four};
-
-// The loudness offset of a subband in the table of a bank, and 0 for one past the table.
-fn offset_in<B: Bank>(frequency: usize, subband: usize) -> i32
-    ensures { result ≡ get_or (get_or (loudness_offsets B.SUBBANDS) frequency []) subband (pos 0) }
-{
-    B::loudness_offsets(frequency)
-        .get(subband)
-        .copied()
-        .unwrap_or(0)
-}
-
-// The loudness offset of a subband, and 0 for one past the table.
-#[tactic(auto, unfolding(sbc_tables::specs::Tables::loudness_offsets))]
-fn loudness_offset(subbands: u8, frequency: usize, subband: usize) -> i32
-    ensures { result ≡ get_or (get_or (loudness_offsets subbands) frequency []) subband (pos 0) }
-{
-    // Kept: one branch picks the type, since the number of subbands is known only as the program runs.
-    if subbands == 4 {
-        offset_in::<Four>(frequency, subband)
-    } else {
-        offset_in::<Eight>(frequency, subband)
-    }
-}
 
 // Halves a loudness above 0 only; a negative one stays as it is.
 fn halve(loudness: i32) -> i32
@@ -49,21 +26,60 @@ fn loudness_need(offset: i32, scale_factor: u8) -> i32
     if scale_factor == 0 {
         return -5;
     }
-    halve(scale_factor as i32 - offset)
+    halve(i32::from(scale_factor) - offset)
 }
 
-// The need, for a caller that has found the rate's index once for all subbands.
-pub fn need_at(parameters: SbcParameters, frequency: usize, scale_factor: u8, subband: usize) -> i32
-    requires { frequency ≡ frequency_index parameters }
-    ensures { result ≡ need parameters scale_factor subband }
+// The loudness offsets of the set's rate.
+#[tactic(auto, unfolding(sbc_tables::specs::Tables::loudness_offsets))]
+fn offsets_of(parameters: SbcParameters) -> &'static [i32]
+    ensures { result.now ≡ get_or (loudness_offsets parameters.subbands) (frequency_index parameters) [] }
 {
-    let allocation = parameters.allocation;
-    match allocation {
-        SbcAllocation::Snr => scale_factor as i32,
-        SbcAllocation::Loudness => loudness_need(
-            loudness_offset(parameters.subbands, frequency, subband),
-            scale_factor,
-        ),
+    let rate = parameters.frequency_index();
+    // Kept: one branch picks the type, since the number of subbands is known only as the program runs.
+    if parameters.subbands == 4 {
+        Four::loudness_offsets(rate)
+    } else {
+        Eight::loudness_offsets(rate)
+    }
+}
+
+// A set of parameters with the loudness offsets of its rate, which are found once for all subbands.
+#[derive(Clone, Copy)]
+pub struct Needs {
+    pub parameters: SbcParameters,
+    pub offsets: &'static [i32],
+    pub ghost of_rate: { offsets.now ≡ get_or (loudness_offsets parameters.subbands) (frequency_index parameters) [] },
+}
+
+impl From<SbcParameters> for Needs {
+    ghost from_gives = { λ parameters needs. needs.parameters ≡ parameters };
+
+    fn from(parameters: SbcParameters) -> Needs {
+        Needs {
+            parameters,
+            offsets: offsets_of(parameters),
+        }
+    }
+}
+
+impl Needs {
+    // The loudness offset of a subband, and 0 for one past the table.
+    #[tactic(auto, unfolding(crate::specs::Need::loudness_offset))]
+    fn offset(self, subband: usize) -> i32
+        ensures { result ≡ loudness_offset self.parameters subband }
+    {
+        self.offsets.get(subband).copied().unwrap_or(0)
+    }
+
+    // The need of a subband with a scale factor.
+    #[tactic(auto, using(crate::proofs::Bounds::offset_small), unfolding(crate::specs::Need::need))]
+    pub fn need(self, scale_factor: u8, subband: usize) -> i32
+        ensures { result ≡ need self.parameters scale_factor subband }
+    {
+        match self.parameters.allocation {
+            SbcAllocation::Snr => i32::from(scale_factor),
+            SbcAllocation::Loudness => loudness_need(self.offset(subband), scale_factor),
+        }
     }
 }
 
@@ -71,10 +87,5 @@ pub fn need_at(parameters: SbcParameters, frequency: usize, scale_factor: u8, su
 pub fn bit_need(parameters: SbcParameters, scale_factor: u8, subband: usize) -> i32
     ensures { result ≡ need parameters scale_factor subband }
 {
-    need_at(
-        parameters,
-        parameters.frequency_index(),
-        scale_factor,
-        subband,
-    )
+    Needs::from(parameters).need(scale_factor, subband)
 }

@@ -14,7 +14,7 @@ use Rattle.sbc_share.specs.Share.{share}
 use Rattle.sbc_share.specs.Raised.{lowered}
 use Rattle.sbc_allocation.specs.Allocate.{channel_needs, table_row}
 use Rattle.sbc_share.proofs.Sharing.{length-share}
-use Rattle.sbc_allocation.proofs.Tables.{needs-none, share-none, row-alone, first-entries}
+use Rattle.sbc_allocation.proofs.Tables.{take-at-least, needs-none, share-none, row-alone, first-entries}
 use Rattle.sbc_allocation.proofs.allocate_channel.Goals as goal
 
 -- the part that is lent: the channel's needs, 32 higher
@@ -49,16 +49,26 @@ module _
 pub returns-then-subbands-eq0 : goal.returns-then-subbands-eq0
 unfolding table_row
 returns-then-subbands-eq0 c =
-    let p = c.args.parameters in
-    let long : length c.args.scale_factors ≡ 8 = search rules in
-    let none = needs-none p c.args.scale_factors long (omega (arith, c.used_subbands-subbands.ensures)) in
-    rw (none, share-none p.bitpool) refl
+    let p = c.args.needs.parameters in
+    rw (needs-none p c.args.scale_factors (omega (arith, c.used_subbands-subbands.ensures)), share-none p.bitpool) refl
+
+pub share_bits-bits-requires : goal.share_bits-bits-requires
+share_bits-bits-requires c =
+    let needs = c.channel_needs-raised in
+    let used = c.used_subbands-subbands in
+    let long : length needs.result ≡ 8 = search rules in
+    let part = part_long c.args.needs.parameters c.args.scale_factors needs.result used.result used.ensures long needs.ensures.all in (
+      omega (arith, part),
+      omega (arith, part),
+      omega arith,
+      take-at-least 16 used.result needs.result (omega arith) (λ i h. needs.ensures.least i (omega arith)),
+    )
 
 pub returns : goal.returns
 returns c =
-    let p = c.args.parameters in
-    let needs_long : length c.channel_needs-needs.result ≡ 8 = search rules in
+    let p = c.args.needs.parameters in
+    let needs_long : length c.channel_needs-raised.result ≡ 8 = search rules in
     let bits_long : length c.share_bits-bits.result ≡ 16 = search rules in
     c.row_of.ensures
-    ∙ row_is p c.args.scale_factors c.channel_needs-needs.result c.used_subbands-subbands.result c.used_subbands-subbands.ensures needs_long
-    c.channel_needs-needs.ensures.0 c.share_bits-bits.result c.from.result bits_long c.from.ensures c.share_bits-bits.ensures
+    ∙ row_is p c.args.scale_factors c.channel_needs-raised.result c.used_subbands-subbands.result c.used_subbands-subbands.ensures needs_long
+    c.channel_needs-raised.ensures.all c.share_bits-bits.result c.from.result bits_long c.from.ensures c.share_bits-bits.ensures

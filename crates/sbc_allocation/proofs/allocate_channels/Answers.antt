@@ -28,14 +28,14 @@ record NeedsOf (p : SbcParameters) (used : ℕ) (factors needs : List ℕ) : Typ
   low : (i : ℕ) → i < used → 16 ≤ get_or needs i 0
 
 needs_of : (p : SbcParameters) (used : ℕ) (factors needs : List ℕ) → used ≡ min p.subbands 8 → length needs ≡ 8
-    → (map lowered (take (min p.subbands 8) needs) ≡ channel_needs p factors) × ((i : ℕ) → i < min p.subbands 8 → 16 ≤ get_or needs i 0)
+    → map lowered (take (min p.subbands 8) needs) ≡ channel_needs p factors → ((i : ℕ) → i < min p.subbands 8 → 16 ≤ get_or needs i 0)
     → NeedsOf p used factors needs
-needs_of p used factors needs is long made =
+needs_of p used factors needs is long all least =
     record {
       eight = omega arith;
       long = long;
-      lower = ap (λ (n : ℕ). map lowered (take n needs)) is ∙ made.0;
-      low = λ i h. made.1 i (omega arith);
+      lower = ap (λ (n : ℕ). map lowered (take n needs)) is ∙ all;
+      low = λ i h. least i (omega arith);
     }
 
 -- the part that is lent: the needs of both channels, 32 higher
@@ -86,31 +86,30 @@ module _ {p : SbcParameters} {used : ℕ} {fl fr left right : List ℕ} (wl : Ne
 pub returns-then-subbands-eq0 : goal.returns-then-subbands-eq0
 unfolding rows_together table_row left_first channel_row
 returns-then-subbands-eq0 c =
-    let p = c.args.parameters in
-    let long : length c.args.left ≡ 8 = search rules in
-    rw (needs-none p c.args.left long (omega (arith, c.used_subbands-subbands.ensures)), share-none p.bitpool) refl
+    let p = c.args.needs.parameters in
+    rw (needs-none p (get_or c.args.scale_factors 0 []) (omega (arith, c.used_subbands-subbands.ensures)), share-none p.bitpool) refl
 
 pub share_bits-bits-requires : goal.share_bits-bits-requires
 share_bits-bits-requires c =
     let used = c.used_subbands-subbands in
-    let left_long : length c.channel_needs-left_needs.result ≡ 8 = search rules in
-    let right_long : length c.channel_needs-right_needs.result ≡ 8 = search rules in
-    let wl = needs_of c.args.parameters used.result _ _ used.ensures left_long c.channel_needs-left_needs.ensures in
-    let wr = needs_of c.args.parameters used.result _ _ used.ensures right_long c.channel_needs-right_needs.ensures in
+    let left_long : length c.channel_needs.result ≡ 8 = search rules in
+    let right_long : length c.channel_needs-2.result ≡ 8 = search rules in
+    let wl = needs_of c.args.needs.parameters used.result _ _ used.ensures left_long c.channel_needs.ensures.all c.channel_needs.ensures.least in
+    let wr = needs_of c.args.needs.parameters used.result _ _ used.ensures right_long c.channel_needs-2.ensures.all c.channel_needs-2.ensures.least in
     let len = part_long wl wr in
-    rw c.both_channels-needs.ensures (omega (arith, len), omega (arith, len, wl.eight), omega arith, part_at_least wl wr)
+    rw c.both_channels-raised.ensures (omega (arith, len), omega (arith, len, wl.eight), omega arith, part_at_least wl wr)
 
 pub returns : goal.returns
 unfolding rows_together
 returns c =
     let used = c.used_subbands-subbands in
-    let left_long : length c.channel_needs-left_needs.result ≡ 8 = search rules in
-    let right_long : length c.channel_needs-right_needs.result ≡ 8 = search rules in
+    let left_long : length c.channel_needs.result ≡ 8 = search rules in
+    let right_long : length c.channel_needs-2.result ≡ 8 = search rules in
     let bits_long : length c.share_bits-bits.result ≡ 16 = search rules in
-    let wl = needs_of c.args.parameters used.result _ _ used.ensures left_long c.channel_needs-left_needs.ensures in
-    let wr = needs_of c.args.parameters used.result _ _ used.ensures right_long c.channel_needs-right_needs.ensures in
-    let row = row_is wl wr c.share_bits-bits.result c.args.parameters.bitpool
-    (rw (c.both_channels-needs.ensures, c.from.ensures) at c.share_bits-bits.ensures) in
+    let wl = needs_of c.args.needs.parameters used.result _ _ used.ensures left_long c.channel_needs.ensures.all c.channel_needs.ensures.least in
+    let wr = needs_of c.args.needs.parameters used.result _ _ used.ensures right_long c.channel_needs-2.ensures.all c.channel_needs-2.ensures.least in
+    let row = row_is wl wr c.share_bits-bits.result c.args.needs.parameters.bitpool
+    (rw (c.both_channels-raised.ensures, c.from.ensures) at c.share_bits-bits.ensures) in
     ap₂ (λ (l r : List ℕ). l ∷ r ∷ [])
     (c.row_of.ensures ∙ left-entries c.share_bits-bits.result bits_long ∙ row 0)
     (c.row_of-2.ensures ∙ right-entries c.share_bits-bits.result bits_long ∙ row 1)

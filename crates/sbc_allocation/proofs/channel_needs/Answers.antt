@@ -24,13 +24,13 @@ loop-i-preserved c =
     let used = c.used_subbands-subbands in
     let l = c.loop-i in
     let n = c.raised_need.result in
-    let P : ℕ → Type 0 = λ j. 16 ≤ get_or (set l.needs l.i n) j 0 in
-    let in-needs : l.i < length l.needs = omega (arith, l.invariant.2, used.ensures) in
-    let before : (j : ℕ) → j < l.i → P j = λ j h. omega (arith, get_or-set_other l.needs l.i j n 0 (omega arith), l.invariant.1 j h) in
-    let here : P l.i = omega (arith, get_or-set_same l.needs l.i n 0 in-needs) in (
-      needs-step c.args.parameters c.args.scale_factors l.needs l.i n in-needs c.raised_need.ensures.0 l.invariant.0,
+    let P : ℕ → Type 0 = λ j. 16 ≤ get_or (set l.raised l.i n) j 0 in
+    let in-needs : l.i < length l.raised = omega (arith, l.invariant.2, used.ensures) in
+    let before : (j : ℕ) → j < l.i → P j = λ j h. omega (arith, get_or-set_other l.raised l.i j n 0 (omega arith), l.invariant.1 j h) in
+    let here : P l.i = omega (arith, get_or-set_same l.raised l.i n 0 in-needs) in (
+      needs-step c.args.needs.parameters c.args.scale_factors l.raised l.i n in-needs c.raised_need.ensures.0 l.invariant.0,
       below_more P l.i before here,
-      length-set l.needs l.i n ∙ l.invariant.2,
+      length-set l.raised l.i n ∙ l.invariant.2,
     )
 
 pub returns : goal.returns
@@ -39,10 +39,12 @@ returns c =
     let long : length c.args.scale_factors ≡ 8 = search rules in
     let used = c.used_subbands-subbands in
     let l = c.loop-i in
-    let p = c.args.parameters in
+    let p = c.args.needs.parameters in
     let at : l.i ≡ min p.subbands 8 = omega (arith, used.ensures) in
-    let all : min p.subbands 8 ≡ min p.subbands (length c.args.scale_factors) = omega (arith, long) in (
-      ap (λ (n : ℕ). map lowered (take n l.needs)) (sym at) ∙ l.invariant.0
-          ∙ ap (λ (n : ℕ). build n (λ j. need p (get_or c.args.scale_factors j 0) j)) (at ∙ all),
-      λ j h. l.invariant.1 j (omega arith),
-    )
+    let all : min p.subbands 8 ≡ min p.subbands (length c.args.scale_factors) = omega (arith, long) in
+    record {
+      all =
+          ap (λ (n : ℕ). map lowered (take n l.raised)) (sym at) ∙ l.invariant.0
+          ∙ ap (λ (n : ℕ). build n (λ j. need p (get_or c.args.scale_factors j 0) j)) (at ∙ all);
+      least = λ j h. l.invariant.1 j (omega arith);
+    }

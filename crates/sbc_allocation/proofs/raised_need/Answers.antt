@@ -10,7 +10,7 @@ use mir.Val.{SFits, to_z, of_z}
 use Rattle.sbc_need.specs.Need.{need}
 use Rattle.sbc_share.specs.Raised.{lowered}
 use mir.Facts.{to_z-of_z}
-use Rattle.sbc_need.proofs.Needs.{Raises, need-raises}
+use Rattle.sbc_need.proofs.Bounds.{Raises, need-raises}
 use Rattle.sbc_allocation.proofs.raised_need.Goals as goal
 
 -- the need that the code has, read back from its bits, and 32
@@ -33,20 +33,20 @@ module _ (p : SbcParameters) (f subband : ℕ) (small : f ≤ 255) {z : ℤ} (fi
 
 pub overflow_add-result : goal.overflow_add-result
 overflow_add-result c =
-    sum_fits c.args.parameters c.args.scale_factor c.args.subband (omega arith) (record { sfits = c.need_at.type_inv }) c.need_at.ensures
+    sum_fits c.args.needs.parameters c.args.scale_factor c.args.subband (omega arith) (record { sfits = c.need.type_inv }) c.need.ensures
 
 pub overflow_cast-result : goal.overflow_cast-result
 overflow_cast-result c =
-    let p = c.args.parameters in
+    let p = c.args.needs.parameters in
     let small : c.args.scale_factor ≤ 255 = omega arith in
-    let k = kept p c.args.scale_factor c.args.subband small (record { sfits = c.need_at.type_inv }) c.need_at.ensures in
+    let k = kept p c.args.scale_factor c.args.subband small (record { sfits = c.need.type_inv }) c.need.ensures in
     rw k (tt, record { fits = omega (arith, (need-raises p c.args.scale_factor c.args.subband small).2) })
 
 pub returns : goal.returns
 returns c =
-    let p = c.args.parameters in
+    let p = c.args.needs.parameters in
     let small : c.args.scale_factor ≤ 255 = omega arith in
     let r = need-raises p c.args.scale_factor c.args.subband small in
-    let fits : SFits w32 c.need_at.result = record { sfits = c.need_at.type_inv } in
-    let k = kept p c.args.scale_factor c.args.subband small fits c.need_at.ensures in
-    rw k (low p c.args.scale_factor c.args.subband small fits c.need_at.ensures, r.2, r.3)
+    let fits : SFits w32 c.need.result = record { sfits = c.need.type_inv } in
+    let k = kept p c.args.scale_factor c.args.subband small fits c.need.ensures in
+    rw k (low p c.args.scale_factor c.args.subband small fits c.need.ensures, r.2, r.3)

@@ -40,9 +40,9 @@ in_table (r ∷ rs) e zero j = in_row r (and_left (small_row r) (small_table rs)
 in_table (r ∷ rs) e (suc i) j = in_table rs (and_right (small_row r) (small_table rs) e) i j
 
 -- every offset is within 4
-pub offset-small : (p : SbcParameters) (subband : ℕ) → mag (loudness_offset p subband) ≤ 4
+pub offset_small : (p : SbcParameters) (subband : ℕ) → mag (loudness_offset p subband) ≤ 4
 unfolding loudness_offset loudness_offsets loudness_offsets4 loudness_offsets8
-offset-small p subband =
+offset_small p subband =
     by-test (λ (t : List (List ℤ)). mag (get_or (get_or t (frequency_index p) []) subband (pos 0)) ≤ 4)
     (eqb p.subbands 4) loudness_offsets4 loudness_offsets8
     (λ e. in_table loudness_offsets4 refl (frequency_index p) subband)
@@ -78,4 +78,4 @@ raises-by Loudness o (suc f) h l = raises-halved (suc f) o h l
 
 pub need-raises : (p : SbcParameters) (f subband : ℕ) → f ≤ 255 → Raises (need p f subband)
 unfolding need
-need-raises p f subband h = raises-by p.allocation (loudness_offset p subband) f h (offset-small p subband)
+need-raises p f subband h = raises-by p.allocation (loudness_offset p subband) f h (offset_small p subband)
