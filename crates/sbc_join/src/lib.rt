@@ -1,12 +1,13 @@
 // Joint stereo: which subbands are coded as the sum and the difference of the channels.
 #![tactic(auto)]
 
-ghost use Rattle.std.specs.Prelude.{◌≡◌, ℕ, ◌+◌, ◌<◌, ◌+ℤ◌, ◌-ℤ◌};
+ghost use Rattle.std.specs.Prelude.{◌≡◌, ℕ, ◌<◌, [], eqb, get_or, ◌+ℤ◌, ◌-ℤ◌, if◌then◌else◌};
 ghost use Rattle.laws.specs.Integers.{floor_div};
-ghost use Rattle.sbc_frame.specs.Arrays.{sample_in, entry, with_subband};
-ghost use Rattle.sbc_join.specs.Joining.{half_sums, half_differences, join_row, picked_row, picked_samples};
+ghost use Rattle.sbc_frame.specs.Encoding.{sample_at};
+ghost use Rattle.sbc_frame.specs.Arrays.{entry, rows_of, with_flagged};
+ghost use Rattle.sbc_join.specs.Joining.{half_sums, half_differences, joined_samples, cost_in, join_row, picked_row};
 
-use sbc_frame::{BlockCount, Factors};
+use sbc_frame::{BlockCount, Blocks, Factors};
 use std::array;
 
 // Half the one and half the other, added.
@@ -24,60 +25,77 @@ fn half_difference(a: i32, b: i32) -> i32
 }
 
 // Both halved, then added.
-// Kept: two functions of one line each; one that took `half_sum` or `half_difference` as a closure would be no shorter.
-pub fn half_sums(left: &[i32; 128], right: &[i32; 128]) -> [i32; 128]
+fn half_sums(left: &[i32; 8], right: &[i32; 8]) -> [i32; 8]
     ensures { result ≡ half_sums left.now right.now }
 {
-    array::from_fn(|k| half_sum(left[k], right[k]))
+    array::from_fn(|s| half_sum(left[s], right[s]))
 }
 
 // Both halved, then subtracted.
-// Kept: as in `half_sums`.
-pub fn half_differences(left: &[i32; 128], right: &[i32; 128]) -> [i32; 128]
+fn half_differences(left: &[i32; 8], right: &[i32; 8]) -> [i32; 8]
     ensures { result ≡ half_differences left.now right.now }
 {
-    array::from_fn(|k| half_difference(left[k], right[k]))
+    array::from_fn(|s| half_difference(left[s], right[s]))
+}
+
+// The joined samples: sums in place of the first channel and differences in place of the second.
+pub fn join(samples: &[Blocks; 2]) -> [Blocks; 2]
+    ensures { (c : ℕ) → c < 2 → rows_of result c ≡ joined_samples (rows_of samples.now) c }
+{
+    let [left, right] = samples;
+    [
+        Blocks {
+            rows: array::from_fn(
+                |b: usize| -> [i32; 8]
+                    requires { b < 16 }
+                    ensures { result ≡ half_sums (get_or left.entry.now.rows b []) (get_or right.entry.now.rows b []) }
+                { half_sums(&left.rows[b], &right.rows[b]) },
+            ),
+        },
+        Blocks {
+            rows: array::from_fn(
+                |b: usize| -> [i32; 8]
+                    requires { b < 16 }
+                    ensures { result ≡ half_differences (get_or left.entry.now.rows b []) (get_or right.entry.now.rows b []) }
+                { half_differences(&left.rows[b], &right.rows[b]) },
+            ),
+        },
+    ]
+}
+
+// The scale factors of a subband in both channels, added.
+fn cost(factors: &Factors, subband: usize) -> u8
+    requires { subband < 8 }
+    ensures { result ≡ cost_in factors.now.rows subband }
+{
+    factors.rows[0][subband] + factors.rows[1][subband]
 }
 
 // 1 for each subband but the last whose new scale factors add to less than the old.
 pub fn join_flags(plain: &Factors, joined: &Factors, subbands: usize) -> [u8; 8]
-    ensures { result ≡ join_row subbands plain.now.left plain.now.right joined.now.left joined.now.right }
+    ensures { result ≡ join_row subbands plain.now.rows joined.now.rows }
 {
-    array::from_fn(move |s| u8::from(
-        s + 1 < subbands && joined.left[s] + joined.right[s] < plain.left[s] + plain.right[s],
-    ))
+    array::from_fn(|s| u8::from(s + 1 < subbands && cost(joined, s) < cost(plain, s)))
 }
 
-// The joined entry where a flag is set.
-pub fn pick_row(flags: &[u8; 8], plain: &[u8; 8], joined: &[u8; 8]) -> [u8; 8]
-    ensures { result ≡ picked_row flags.now plain.now joined.now }
+// The joined entry where a flag is set. The closure says what it gives: the check does not read that off the body of a generic one.
+pub fn pick<T: Copy>(flags: &[u8; 8], plain: &[T; 8], joined: &[T; 8]) -> [T; 8]
+    ensures { (d : T) → result ≡ picked_row d flags.now plain.now joined.now }
 {
-    array::from_fn(|s| if flags[s] == 1 { joined[s] } else { plain[s] })
+    array::from_fn(
+        |s: usize| -> T
+            requires { s < 8 }
+            ensures { (d : T) → result
+                ≡ (if eqb (entry flags.entry.now s) 1 then get_or joined.entry.now s d else get_or plain.entry.now s d) }
+        { if flags[s] == 1 { joined[s] } else { plain[s] } },
+    )
 }
 
-// The joined samples of one subband in place of its own.
-fn pick_subband(samples: &mut [i32; 128], joined: &[i32; 128], subband: usize, blocks: BlockCount)
-    requires { subband < 8 }
-    ensures { samples.new ≡ with_subband blocks.count subband (λ b. sample_in joined.now b subband) samples.old }
+// The joined samples of a channel where a flag is set.
+pub fn pick_samples(samples: &mut Blocks, joined: &Blocks, flags: &[u8; 8], blocks: BlockCount)
+    ensures { samples.new.rows ≡ with_flagged blocks.count flags.now (sample_at joined.now.rows) samples.old.rows }
 {
     for block in 0..blocks.count {
-        samples[8 * block + subband] = joined[8 * block + subband];
-    }
-}
-
-// The joined samples where a flag is set.
-// Kept: a `for` over the subbands, and in `pick_subband` one over the blocks, whose places are computed from both: 8 * block + subband.
-pub fn pick_samples(
-    samples: &mut [i32; 128],
-    joined: &[i32; 128],
-    flags: &[u8; 8],
-    blocks: BlockCount,
-)
-    ensures { samples.new ≡ picked_samples blocks.count flags.now samples.old joined.now }
-{
-    for subband in 0..8 {
-        if flags[subband] == 1 {
-            pick_subband(samples, joined, subband, blocks);
-        }
+        samples.rows[block] = pick(flags, &samples.rows[block], &joined.rows[block]);
     }
 }

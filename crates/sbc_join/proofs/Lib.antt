@@ -1,0 +1,2 @@
+-- The rows of samples that are picked by the join flags.
+mod Picked
