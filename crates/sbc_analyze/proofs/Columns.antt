@@ -5,7 +5,7 @@ use Prim.Native.Nat.{ℕ, ◌+◌, ◌*◌, ◌-◌, ◌/◌, ◌^◌, ◌≤◌
 use mathlib.Core.Path.{◌≡◌, refl, sym, ap, ap₂, ◌∙◌, subst}
 use mathlib.Core.Bool.{Bool, true, false, ◌&&◌}
 use mathlib.Core.List.{List}
-use native.Mathlib.Nat.{le_trans, mul-le-mul_right}
+use native.Mathlib.Nat.{le_trans}
 use native.Mathlib.Omega.{arith}
 use lib.Dec.{T, eqb, ltb, leb, lit≤, lit<}
 use lib.ListN.{length, get_or}
@@ -17,19 +17,21 @@ use Rattle.laws.specs.Lists.{collect, build}
 use Rattle.laws.specs.Integers.{Within, floor_div}
 use Rattle.laws.specs.Sums.{sum_z, up_to, delta}
 use Rattle.laws.proofs.Cases.{by-test}
-use Rattle.laws.proofs.Ring.{one-*ℤ}
+use Rattle.laws.proofs.Ring.{one-*ℤ, minus-one-*ℤ}
 use Rattle.laws.proofs.Abs.{nat_abs-+, nat_abs--, nat_abs-*-le}
 use Rattle.laws.proofs.Floor.{nat_abs-floor}
-use Rattle.laws.proofs.Sums.{sum_z-ext, sum_z-bound}
+use Rattle.laws.proofs.Sums.{sum_z-ext}
 use Rattle.laws.proofs.Arrays.{filled-ext, get_or-filled, within-up_to}
 use Rattle.laws.proofs.Linear.{coefficient, folded, sum_of, difference-of}
 use Rattle.laws.proofs.Table.{eq_z, eq_z→eq, all_below, at, table-within}
 use Rattle.sbc_tables.specs.Tables.{cosines}
 use Rattle.sbc_filterbank.specs.Subbands.{Bands, cosine_at, padded}
 use Rattle.sbc_filterbank.specs.Analysis.{windowed, analysis_cosine, subband_term, subband_sample, analysis_outputs}
-use Rattle.sbc_filterbank.specs.Matrices.{Part}
-use Rattle.sbc_analyze.specs.Fold.{fold_sign, fold_mirror, fold_column, analysis_columns, column_term, column_sum, output_sum, output_value}
+use Rattle.sbc_filterbank.specs.Matrices.{Part, product_term}
+use Rattle.sbc_analyze.specs.Fold.{fold_sign, fold_mirror, fold_column, even_columns, odd_columns}
+use Rattle.sbc_analyze.specs.Fold.{analysis_columns, column_sum, output_sum, output_value}
 use Rattle.sbc_filterbank.proofs.Bands.{for-bands, bands-le, padded-is}
+use Rattle.sbc_filterbank.proofs.Terms.{products-within}
 
 -- ---- a column, by its cases
 module _ (S : ℕ) (Y : ℕ → ℤ) (c : ℕ) where
@@ -41,9 +43,9 @@ module _ (S : ℕ) (Y : ℕ → ℤ) (c : ℕ) where
   unfolding fold_column
   fold-near ne h = rw (ne_eqb c 0 ne, le-leb c (S / 2) h) (ap (λ z. Y (S / 2 + c) +ℤ z) (one-*ℤ (Y (S / 2 - c))))
 
-  pub fold-far : (c ≡ 0 → ⊥) → S / 2 < c → fold_column S Y c ≡ Y (S / 2 + c) +ℤ negsuc 0 *ℤ Y (5 * (S / 2) - c)
+  pub fold-far : (c ≡ 0 → ⊥) → S / 2 < c → fold_column S Y c ≡ Y (S / 2 + c) -ℤ Y (5 * (S / 2) - c)
   unfolding fold_column
-  fold-far ne h = rw (ne_eqb c 0 ne, lt-leb c (S / 2) h)
+  fold-far ne h = rw (ne_eqb c 0 ne, lt-leb c (S / 2) h) (ap (λ z. Y (S / 2 + c) +ℤ z) (minus-one-*ℤ (Y (5 * (S / 2) - c))))
 
 -- ---- the coefficients of Y in the sums of columns
 weight : ℕ → ℕ → ℕ → ℕ → ℤ
@@ -87,25 +89,33 @@ mirror-below {S} c b =
 mirrored-below : {S : ℕ} (i : ℕ) → Bands S → S / 2 ≤ i → i < S → S - 1 - i < S / 2
 mirrored-below i b = for-bands (λ s. s / 2 ≤ i → i < s → s - 1 - i < s / 2) b (λ l m. omega arith) (λ l m. omega arith)
 
-module _ {S : ℕ} (Y : ℕ → ℤ) (F : List ℤ) (b : Bands S) (e : (c : ℕ) → c < S → get_or F c (pos 0) ≡ fold_column S Y c) where
-  column-sum-is : (odd i : ℕ) → odd < 2 → i < S / 2 → column_sum S F odd i ≡ sum_z (2 * S) (λ k. weight S odd i k *ℤ Y k)
-  unfolding column_sum fold_column weight
-  column-sum-is odd i o h =
-      sum_z-ext (S / 2) _ _
-      (λ n p. ap (λ z. get_or (analysis_columns S) (i * S + odd * (S / 2) + n) (pos 0) *ℤ z) (e (2 * n + odd) (omega arith)))
+-- the even columns (odd = 0), or the odd ones (1), in an array
+Holds : ℕ → (ℕ → ℤ) → ℕ → List ℤ → Type 0
+Holds S Y odd F = (n : ℕ) → n < S / 2 → get_or F n (pos 0) ≡ fold_column S Y (2 * n + odd)
+
+module _ {S : ℕ} (Y : ℕ → ℤ) (F : List ℤ) (odd at i : ℕ) (b : Bands S) where
+  column-sum-is : Holds S Y odd F → odd < 2 → at ≡ odd * (S / 2) → i < S / 2
+      → column_sum S F at i ≡ sum_z (2 * S) (λ k. weight S odd i k *ℤ Y k)
+  unfolding Holds column_sum fold_column weight
+  column-sum-is e o a h =
+      ap (λ (m : ℕ). sum_z (S / 2) (product_term (analysis_columns S) F (i * S + m))) a
+      ∙ sum_z-ext (S / 2) _ _ (λ n p. ap (λ z. get_or (analysis_columns S) (i * S + odd * (S / 2) + n) (pos 0) *ℤ z) (e n p))
       ∙ folded (S / 2) (2 * S) (λ n. get_or (analysis_columns S) (i * S + odd * (S / 2) + n) (pos 0)) (λ n. fold_sign S (2 * n + odd))
       (λ n. S / 2 + (2 * n + odd)) (λ n. fold_mirror S (2 * n + odd)) Y (λ n p. omega arith) (λ n p. mirror-below (2 * n + odd) b)
 
+module _ {S : ℕ} (Y : ℕ → ℤ) (even odd : List ℤ) (b : Bands S) (e : Holds S Y 0 even) (o : Holds S Y 1 odd) where
   output-sum-is : (i : ℕ) → i < S
-      → output_sum S (column_sum S F 0) (column_sum S F 1) i ≡ sum_z (2 * S) (subband_term S Y i)
+      → output_sum S (column_sum S even 0) (column_sum S odd (S / 2)) i ≡ sum_z (2 * S) (subband_term S Y i)
   unfolding output_sum
   output-sum-is i h =
       by-test (λ z. z ≡ sum_z (2 * S) (subband_term S Y i)) (ltb i (S / 2)) _ _
       (λ t. let p = ltb-true i (S / 2) t in
-      ap₂ (λ x y. x +ℤ y) (column-sum-is 0 i (lit< tt) p) (column-sum-is 1 i (lit< tt) p)
+      ap₂ (λ x y. x +ℤ y) (column-sum-is Y even 0 0 i b e (lit< tt) (omega arith) p)
+      (column-sum-is Y odd 1 (S / 2) i b o (lit< tt) (omega arith) p)
       ∙ sum_of (2 * S) (weight S 0 i) (weight S 1 i) (analysis_cosine S i) Y (λ k q. weight-sum i k b p q))
       (λ t. let p = mirrored-below i b (ltb-false i (S / 2) t) h in
-      ap₂ (λ x y. x -ℤ y) (column-sum-is 0 (S - 1 - i) (lit< tt) p) (column-sum-is 1 (S - 1 - i) (lit< tt) p)
+      ap₂ (λ x y. x -ℤ y) (column-sum-is Y even 0 0 (S - 1 - i) b e (lit< tt) (omega arith) p)
+      (column-sum-is Y odd 1 (S / 2) (S - 1 - i) b o (lit< tt) (omega arith) p)
       ∙ difference-of (2 * S) (weight S 0 (S - 1 - i)) (weight S 1 (S - 1 - i)) (analysis_cosine S i) Y
       (λ k q. weight-difference (S - 1 - i) k b p q ∙ ap (λ (n : ℕ). analysis_cosine S n k) (omega arith)))
 
@@ -130,22 +140,25 @@ matrix-size : {S : ℕ} → Bands S → length (analysis_columns S) ≡ S / 2 * 
 unfolding analysis_columns collect build
 matrix-size b = for-bands (λ s. length (analysis_columns s) ≡ s / 2 * s) b refl refl
 
--- what the sum of output i's even columns, or of its odd ones, asks of the matrix
-pub column-asks : {S : ℕ} (i odd : ℕ) (M : List ℤ) → Bands S → i < S / 2 → odd < 2 → M ≡ analysis_columns S
-    → Part M (i * S + odd * (S / 2)) (S / 2)
-column-asks {S} i odd M b h o e =
-    let end : i * S + odd * (S / 2) + S / 2 ≤ S / 2 * S =
-    for-bands (λ s. i < s / 2 → odd < 2 → i * s + odd * (s / 2) + s / 2 ≤ s / 2 * s) b (λ l m. omega arith) (λ l m. omega arith) h o in (
+-- what the sum of output i's even columns (at = 0), or of its odd ones (S/2), asks of the matrix, and of the columns
+pub column-asks : {S : ℕ} (i at place : ℕ) (M : List ℤ) → Bands S → i < S / 2 → at ≤ S / 2 → place ≡ i * S + at → M ≡ analysis_columns S
+    → Part M place (S / 2)
+column-asks {S} i at place M b h a p e =
+    let end : i * S + at + S / 2 ≤ S / 2 * S =
+    for-bands (λ s. i < s / 2 → at ≤ s / 2 → i * s + at + s / 2 ≤ s / 2 * s) b (λ l m. omega arith) (λ l m. omega arith) h a in (
       omega (arith, bands-le b),
-      le_trans end (for-bands (λ s. s / 2 * s ≤ 32) b (lit≤ tt) (lit≤ tt)),
-      subst (λ (n : ℕ). i * S + odd * (S / 2) + S / 2 ≤ n) (sym (ap length e ∙ matrix-size b)) end,
+      omega (arith, for-bands (λ s. s / 2 * s ≤ 32) b (lit≤ tt) (lit≤ tt)),
+      omega (arith, ap length e, matrix-size b),
       subst (Within (2 ^ 30)) (sym e) (matrix-within b),
     )
 
-pub column-sum-of : (S : ℕ) (M F : List ℤ) (odd i : ℕ) → M ≡ analysis_columns S
-    → sum_z (S / 2) (column_term M F (i * S + odd * (S / 2)) odd) ≡ column_sum S F odd i
+pub columns-fit : (F : List ℤ) → Within 800000000 F → Within (2 ^ 30) F
+columns-fit F w k = le_trans (w k) (lit≤ tt)
+
+pub column-sum-of : (S : ℕ) (M F : List ℤ) (at place i : ℕ) → place ≡ i * S + at → M ≡ analysis_columns S
+    → sum_z (S / 2) (product_term M F place) ≡ column_sum S F at i
 unfolding column_sum
-column-sum-of S M F odd i e = ap (λ (l : List ℤ). sum_z (S / 2) (column_term l F (i * S + odd * (S / 2)) odd)) e
+column-sum-of S M F at place i p e = ap₂ (λ (l : List ℤ) (n : ℕ). sum_z (S / 2) (product_term l F n)) e p
 
 -- ---- the bounds of the arrays
 sign_small : (s t : Bool) → nat_abs (if s then pos 0 else (if t then pos 1 else negsuc 0)) ≤ 1
@@ -164,27 +177,20 @@ column-within S Y c w =
           (w (fold_mirror S c)),
     ))
 
-pub fold-within : (S : ℕ) (Y F : List ℤ) → Within 400000000 Y → F ≡ build 8 (up_to S (fold_column S (λ k. get_or Y k (pos 0))))
-    → Within 800000000 F
-fold-within S Y F w e =
+pub columns-within : (S : ℕ) (c : ℕ → ℕ) (Y F : List ℤ) → Within 400000000 Y
+    → F ≡ build 4 (up_to (S / 2) (λ n. fold_column S (λ k. get_or Y k (pos 0)) (c n))) → Within 800000000 F
+columns-within S c Y F w e =
     subst (Within 800000000) (sym e)
-    (within-up_to 8 S 800000000 (fold_column S (λ k. get_or Y k (pos 0))) (λ c p. column-within S (λ k. get_or Y k (pos 0)) c w))
+    (within-up_to 4 (S / 2) 800000000 (λ n. fold_column S (λ k. get_or Y k (pos 0)) (c n))
+    (λ n p. column-within S (λ k. get_or Y k (pos 0)) (c n) w))
 
-pub column-part : (matrix F : List ℤ) (base odd n : ℕ) → Within (2 ^ 30) matrix → Within 800000000 F → n ≤ 4
-    → nat_abs (sum_z n (column_term matrix F base odd)) ≤ 2 ^ 32 * 800000000
-column-part matrix F base odd n wm wf h =
-    le_trans
-    (sum_z-bound n (2 ^ 30 * 800000000) (column_term matrix F base odd)
-    (λ k p. nat_abs-*-le (get_or matrix (base + k) (pos 0)) (get_or F (2 * k + odd) (pos 0)) (wm (base + k)) (wf (2 * k + odd))))
-    (mul-le-mul_right (2 ^ 30 * 800000000) h)
-
-pub sums-within : {S : ℕ} (F sums : List ℤ) (odd : ℕ) → Bands S → Within 800000000 F
-    → sums ≡ build 4 (up_to (S / 2) (column_sum S F odd)) → Within (2 ^ 32 * 800000000) sums
+pub sums-within : {S : ℕ} (F sums : List ℤ) (at : ℕ) → Bands S → Within 800000000 F
+    → sums ≡ build 4 (up_to (S / 2) (column_sum S F at)) → Within (2 ^ 32 * 800000000) sums
 unfolding column_sum
-sums-within {S} F sums odd b w e =
+sums-within {S} F sums at b w e =
     subst (Within (2 ^ 32 * 800000000)) (sym e)
-    (within-up_to 4 (S / 2) (2 ^ 32 * 800000000) (column_sum S F odd)
-    (λ i p. column-part (analysis_columns S) F (i * S + odd * (S / 2)) odd (S / 2) (matrix-within b) w (omega (arith, bands-le b))))
+    (within-up_to 4 (S / 2) (2 ^ 32 * 800000000) (column_sum S F at)
+    (λ i p. products-within (analysis_columns S) F (i * S + at) (S / 2) 800000000 (matrix-within b) w (omega (arith, bands-le b))))
 
 pub outputs-within : (S : ℕ) (even odd out : List ℤ) → Within (2 ^ 32 * 800000000) even → Within (2 ^ 32 * 800000000) odd
     → out ≡ build 8 (up_to S (output_value S (λ k. get_or even k (pos 0)) (λ k. get_or odd k (pos 0)))) → Within 800000000 out
@@ -209,24 +215,22 @@ output-ext {S} e o e' o' i b h p q = go (ltb i (S / 2)) refl
     go true t = let l = ltb-true i (S / 2) t in ap₂ (λ x y. x +ℤ y) (p i l) (q i l)
     go false t = let l = mirrored-below i b (ltb-false i (S / 2) t) h in ap₂ (λ x y. x -ℤ y) (p (S - 1 - i) l) (q (S - 1 - i) l)
 
-pub outputs-is : {S : ℕ} (X Y F even odd out : List ℤ) → Bands S → Y ≡ build 16 (up_to (2 * S) (windowed S X))
-    → F ≡ build 8 (up_to S (fold_column S (λ k. get_or Y k (pos 0))))
-    → even ≡ build 4 (up_to (S / 2) (column_sum S F 0)) → odd ≡ build 4 (up_to (S / 2) (column_sum S F 1))
+pub outputs-is : {S : ℕ} (X Y F G even odd out : List ℤ) → Bands S → Y ≡ build 16 (up_to (2 * S) (windowed S X))
+    → F ≡ even_columns S (λ k. get_or Y k (pos 0)) → G ≡ odd_columns S (λ k. get_or Y k (pos 0))
+    → even ≡ build 4 (up_to (S / 2) (column_sum S F 0)) → odd ≡ build 4 (up_to (S / 2) (column_sum S G (S / 2)))
     → out ≡ build 8 (up_to S (output_value S (λ k. get_or even k (pos 0)) (λ k. get_or odd k (pos 0))))
     → out ≡ padded (analysis_outputs S X)
-unfolding output_value subband_sample analysis_outputs
-outputs-is {S} X Y F even odd out b y f e o r =
+unfolding Holds output_value subband_sample analysis_outputs
+outputs-is {S} X Y F G even odd out b y f g e o r =
     r
     ∙ filled-ext 8 S _ (subband_sample S (windowed S X))
     (λ i h. ap (λ z. floor_div z (2 ^ 33))
-    (output-ext (λ k. get_or even k (pos 0)) (λ k. get_or odd k (pos 0)) _ _ i b h (entry even 0 e) (entry odd 1 o)
-    ∙ output-sum-is (λ k. get_or Y k (pos 0)) F b (λ c p. get_or-filled 8 S (fold_column S (λ k. get_or Y k (pos 0))) F c f p (bands-le b))
-    i h
+    (output-ext (λ k. get_or even k (pos 0)) (λ k. get_or odd k (pos 0)) _ _ i b h (entry _ even e) (entry _ odd o)
+    ∙ output-sum-is (λ k. get_or Y k (pos 0)) F G b
+    (λ n p. entry _ F f n p ∙ ap (fold_column S (λ k. get_or Y k (pos 0))) (omega arith)) (entry _ G g) i h
     ∙ sum_z-ext (2 * S) _ _ (λ k p. ap (λ z. analysis_cosine S i k *ℤ z)
     (get_or-filled 16 (2 * S) (windowed S X) Y k y p (for-bands (λ s. 2 * s ≤ 16) b (lit≤ tt) (lit≤ tt))))))
     ∙ padded-is S (subband_sample S (windowed S X)) (bands-le b)
   where
-    entry : (xs : List ℤ) (n : ℕ) → xs ≡ build 4 (up_to (S / 2) (column_sum S F n)) → (k : ℕ) → k < S / 2
-        → get_or xs k (pos 0) ≡ column_sum S F n k
-    entry xs n q k p =
-        get_or-filled 4 (S / 2) (column_sum S F n) xs k q p (omega (arith, bands-le b))
+    entry : (f : ℕ → ℤ) (xs : List ℤ) → xs ≡ build 4 (up_to (S / 2) f) → (k : ℕ) → k < S / 2 → get_or xs k (pos 0) ≡ f k
+    entry f xs q k p = get_or-filled 4 (S / 2) f xs k q p (omega (arith, bands-le b))

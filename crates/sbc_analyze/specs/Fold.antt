@@ -5,8 +5,9 @@ use Rattle.std.specs.Prelude.{ℕ, ◌+◌, ◌*◌, ◌-◌, ◌/◌, ◌^◌, 
 use Rattle.std.specs.Prelude.{if◌then◌else◌}
 use Rattle.laws.specs.Lists.{collect, build}
 use Rattle.laws.specs.Integers.{floor_div}
-use Rattle.laws.specs.Sums.{sum_z}
+use Rattle.laws.specs.Sums.{sum_z, up_to}
 use Rattle.sbc_filterbank.specs.Analysis.{analysis_cosine}
+use Rattle.sbc_filterbank.specs.Matrices.{product_term}
 
 -- ---- the history: f below n, and g from n on
 abbrev pub spliced_at : ℕ → (ℕ → ℤ) → (ℕ → ℤ) → ℕ → ℤ
@@ -36,18 +37,22 @@ fold_mirror S c = if leb c (S / 2) then S / 2 - c else 5 * (S / 2) - c
 unfoldable pub fold_column : ℕ → (ℕ → ℤ) → ℕ → ℤ
 fold_column S Y c = Y (S / 2 + c) +ℤ fold_sign S c *ℤ Y (fold_mirror S c)
 
+-- the S/2 even columns of Y, and the S/2 odd ones, in arrays of four
+abbrev pub even_columns : ℕ → (ℕ → ℤ) → List ℤ
+even_columns S Y = build 4 (up_to (S / 2) (λ n. fold_column S Y (2 * n)))
+
+abbrev pub odd_columns : ℕ → (ℕ → ℤ) → List ℤ
+odd_columns S Y = build 4 (up_to (S / 2) (λ n. fold_column S Y (2 * n + 1)))
+
 -- the matrix: for each output in the first half, the cosines of its even columns, and then those of its odd ones
 unfoldable pub analysis_columns : ℕ → List ℤ
 analysis_columns S =
     collect (S / 2)
     (λ i. build (S / 2) (λ n. analysis_cosine S i (S / 2 + 2 * n)) ++ build (S / 2) (λ n. analysis_cosine S i (S / 2 + 2 * n + 1)))
 
--- entries of the matrix, from `at` on, times the even columns (odd = 0), or the odd ones (1); and all that output i takes of them
-abbrev pub column_term : List ℤ → List ℤ → ℕ → ℕ → ℕ → ℤ
-column_term matrix columns at odd n = get_or matrix (at + n) (pos 0) *ℤ get_or columns (2 * n + odd) (pos 0)
-
+-- what output i takes of the even columns, whose cosines begin at its row (at = 0), or of the odd ones (at = S/2)
 unfoldable pub column_sum : ℕ → List ℤ → ℕ → ℕ → ℤ
-column_sum S columns odd i = sum_z (S / 2) (column_term (analysis_columns S) columns (i * S + odd * (S / 2)) odd)
+column_sum S columns at i = sum_z (S / 2) (product_term (analysis_columns S) columns (i * S + at))
 
 -- output i from the sums of the even and of the odd columns: their sum, and in the second half the mirrored output's difference
 unfoldable pub output_sum : ℕ → (ℕ → ℤ) → (ℕ → ℤ) → ℕ → ℤ

@@ -7,10 +7,10 @@ ghost use Rattle.laws.specs.Integers.{Within};
 ghost use Rattle.laws.specs.Sums.{sum_z, up_to};
 ghost use Rattle.sbc_filterbank.specs.Subbands.{bands_of, padded};
 ghost use Rattle.sbc_filterbank.specs.Analysis.{shifted, window_term, windowed, analysis_outputs};
-ghost use Rattle.sbc_filterbank.specs.Matrices.{Part};
-ghost use Rattle.sbc_analyze.specs.Fold.{moved, entered, fold_column, column_term, column_sum, output_value};
+ghost use Rattle.sbc_analyze.specs.Fold.{moved, entered, fold_column, even_columns, odd_columns, column_sum, output_value};
 
 use crate::matrices::AnalysisBank;
+use sbc_filterbank::products;
 use sbc_tables::{Bank, Eight, Four};
 
 // The first 9 S places of the history moved up by S.
@@ -43,98 +43,118 @@ fn window_sum<B: Bank>(history: &[i16; 80], k: usize) -> i64
     sum
 }
 
-// Y[0] .. Y[2 S - 1].
-// Kept: its bound in three contracts, no plainer otherwise: a struct for it would be made here and taken apart by `fold`, with no method.
-fn windows<B: Bank>(history: &[i16; 80]) -> [i32; 16]
-    ensures { (result ≡ build 16 (up_to (2 * B.SUBBANDS) (windowed B.SUBBANDS history.now))) × (Within 400000000 result) }
-{
-    let mut partial = [0i32; 16];
-    for k in 0..2 * B::SUBBANDS {
-        partial[k] = laws::shift_down(window_sum::<B>(history, k), 15);
-    }
-    partial
+// Y[0] .. Y[2 S - 1], with zeros behind them.
+#[derive(Drop)]
+struct Windows {
+    values: [i32; 16],
+    ghost small: { Within 400000000 values },
 }
 
-// Column c of Y: two entries whose cosines are equal, added. Past column S/2 they are opposite, and the second has the other sign.
-fn fold<B: Bank>(partial: &[i32; 16], c: usize) -> i32
-    requires { (c < B.SUBBANDS) × (Within 400000000 partial.now) }
-    ensures { result ≡ fold_column B.SUBBANDS (λ k. get_or partial.now k (pos 0)) c }
-{
-    let half = B::SUBBANDS / 2;
-    let right = partial[half + c];
-    if c == 0 {
-        return right;
+impl Windows {
+    // Those of a history.
+    fn of<B: Bank>(history: &[i16; 80]) -> Windows
+        ensures { result.values ≡ build 16 (up_to (2 * B.SUBBANDS) (windowed B.SUBBANDS history.now)) }
+    {
+        let mut values = [0i32; 16];
+        for k in 0..2 * B::SUBBANDS {
+            values[k] = laws::shift_down(window_sum::<B>(history, k), 15);
+        }
+        Windows { values }
     }
-    if c <= half {
-        return right + partial[half - c];
+
+    // Column c: two entries whose cosines are equal, added. Past column S/2 they are opposite, and the second is subtracted.
+    fn column<B: Bank>(&self, c: usize) -> i32
+        requires { c < B.SUBBANDS }
+        ensures { result ≡ fold_column B.SUBBANDS (λ k. get_or self.now.values k (pos 0)) c }
+    {
+        let half = B::SUBBANDS / 2;
+        let right = self.values[half + c];
+        if c == 0 {
+            return right;
+        }
+        if c <= half {
+            return right + self.values[half - c];
+        }
+        right - self.values[5 * half - c]
     }
-    let sign = -1;
-    right + sign * partial[5 * half - c]
+
+    // All of them.
+    fn columns<B: Bank>(&self) -> Columns
+        ensures even { result.even ≡ even_columns B.SUBBANDS (λ k. get_or self.now.values k (pos 0)) }
+        ensures odd { result.odd ≡ odd_columns B.SUBBANDS (λ k. get_or self.now.values k (pos 0)) }
+    {
+        let mut even = [0i32; 4];
+        let mut odd = [0i32; 4];
+        for n in 0..B::SUBBANDS / 2 {
+            even[n] = self.column::<B>(2 * n);
+            odd[n] = self.column::<B>(2 * n + 1);
+        }
+        Columns { even, odd }
+    }
 }
 
-// The S columns.
-fn fold_all<B: Bank>(partial: &[i32; 16]) -> [i32; 8]
-    requires { Within 400000000 partial.now }
-    ensures { result ≡ build 8 (up_to B.SUBBANDS (fold_column B.SUBBANDS (λ k. get_or partial.now k (pos 0)))) }
-{
-    let mut columns = [0i32; 8];
-    for c in 0..B::SUBBANDS {
-        columns[c] = fold::<B>(partial, c);
-    }
-    columns
+// The S/2 even columns of Y, and the S/2 odd ones.
+#[derive(Drop)]
+struct Columns {
+    even: [i32; 4],
+    odd: [i32; 4],
+    ghost even_small: { Within 800000000 even },
+    ghost odd_small: { Within 800000000 odd },
 }
 
-// `count` entries of the matrix, from `at` on, times the even columns (`odd` 0), or the odd ones (1).
-// Kept: `odd` as a number, no plainer otherwise: the place in the matrix and the columns are computed with it.
-fn column_sum(matrix: &[i32], columns: &[i32; 8], at: usize, odd: usize, count: usize) -> i64
-    requires { (odd < 2) × (Within 800000000 columns.now) × (Part matrix.now at count) }
-    ensures { result ≡ sum_z count (column_term matrix.now columns.now at odd) }
-{
-    let mut sum = 0i64;
-    for n in 0..count {
-        sum = laws::multiply_add(sum, matrix[at + n], columns[2 * n + odd]);
+impl Columns {
+    // The columns times the cosines of the first S/2 outputs. The last S/2 outputs have the same sums, the odd ones with the other sign.
+    fn sums<B: AnalysisBank>(&self) -> Sums
+        ensures even { result.even ≡ build 4 (up_to (B.SUBBANDS / 2) (column_sum B.SUBBANDS self.now.even 0)) }
+        ensures odd { result.odd ≡ build 4 (up_to (B.SUBBANDS / 2) (column_sum B.SUBBANDS self.now.odd (B.SUBBANDS / 2))) }
+    {
+        let matrix = B::columns();
+        let subbands = B::SUBBANDS;
+        let half = subbands / 2;
+        let mut even = [0i64; 4];
+        let mut odd = [0i64; 4];
+        for i in 0..half {
+            even[i] = products(matrix, &self.even, i * subbands, half);
+            odd[i] = products(matrix, &self.odd, i * subbands + half, half);
+        }
+        Sums { even, odd }
     }
-    sum
 }
 
-// The sums of the even columns, or of the odd ones, for the first S/2 outputs. The last S/2 outputs have the same sums, the odd ones with
-// the other sign.
-fn column_sums<B: AnalysisBank>(columns: &[i32; 8], odd: usize) -> [i64; 4]
-    requires { (odd < 2) × (Within 800000000 columns.now) }
-    ensures { result ≡ build 4 (up_to (B.SUBBANDS / 2) (column_sum B.SUBBANDS columns.now odd)) }
-{
-    let matrix = B::columns();
-    let subbands = B::SUBBANDS;
-    let half = subbands / 2;
-    let mut sums = [0i64; 4];
-    for i in 0..half {
-        sums[i] = column_sum(matrix, columns, i * subbands + odd * half, odd, half);
-    }
-    sums
+// For each of the first S/2 outputs the sum of its even columns, and of its odd ones.
+#[derive(Drop)]
+struct Sums {
+    even: [i64; 4],
+    odd: [i64; 4],
+    ghost even_small: { Within (2 ^ 32 * 800000000) even },
+    ghost odd_small: { Within (2 ^ 32 * 800000000) odd },
 }
 
-// Output i, or the mirror of one in the first half.
-fn output<B: Bank>(even: &[i64; 4], odd: &[i64; 4], i: usize) -> i32
-    requires { (i < B.SUBBANDS) × (Within (2 ^ 32 * 800000000) even.now) × (Within (2 ^ 32 * 800000000) odd.now) }
-    ensures { result ≡ output_value B.SUBBANDS (λ k. get_or even.now k (pos 0)) (λ k. get_or odd.now k (pos 0)) i }
-{
-    if i < B::SUBBANDS / 2 {
-        return laws::shift_down(even[i] + odd[i], 33);
+impl Sums {
+    // Output i, or the mirror of one in the first half.
+    fn output<B: Bank>(&self, i: usize) -> i32
+        requires { i < B.SUBBANDS }
+        ensures { result ≡ output_value B.SUBBANDS (λ k. get_or self.now.even k (pos 0)) (λ k. get_or self.now.odd k (pos 0)) i }
+    {
+        if i < B::SUBBANDS / 2 {
+            return laws::shift_down(self.even[i] + self.odd[i], 33);
+        }
+        let mirror = B::SUBBANDS - 1 - i;
+        laws::shift_down(self.even[mirror] - self.odd[mirror], 33)
     }
-    let mirror = B::SUBBANDS - 1 - i;
-    laws::shift_down(even[mirror] - odd[mirror], 33)
-}
 
-// The S outputs.
-fn output_all<B: Bank>(even: &[i64; 4], odd: &[i64; 4]) -> [i32; 8]
-    requires { (Within (2 ^ 32 * 800000000) even.now) × (Within (2 ^ 32 * 800000000) odd.now) }
-    ensures { result ≡ build 8 (up_to B.SUBBANDS (output_value B.SUBBANDS (λ k. get_or even.now k (pos 0)) (λ k. get_or odd.now k (pos 0)))) }
-{
-    let mut samples = [0i32; 8];
-    for i in 0..B::SUBBANDS {
-        samples[i] = output::<B>(even, odd, i);
+    // The S outputs.
+    fn outputs<B: Bank>(&self) -> [i32; 8]
+        ensures { result
+            ≡ build 8 (up_to B.SUBBANDS
+            (output_value B.SUBBANDS (λ k. get_or self.now.even k (pos 0)) (λ k. get_or self.now.odd k (pos 0)))) }
+    {
+        let mut samples = [0i32; 8];
+        for i in 0..B::SUBBANDS {
+            samples[i] = self.output::<B>(i);
+        }
+        samples
     }
-    samples
 }
 
 // One block of analysis, for the filterbank's S subbands: the first S places of `input` count, and past S outputs there are zeros. The
@@ -146,11 +166,10 @@ pub fn analyze_by<B: AnalysisBank>(history: &mut [i16; 80], input: &[i16; 8]) ->
 {
     shift_history::<B>(history);
     enter::<B>(history, input);
-    let partial = windows::<B>(history);
-    let columns = fold_all::<B>(&partial);
-    let even = column_sums::<B>(&columns, 0);
-    let odd = column_sums::<B>(&columns, 1);
-    output_all::<B>(&even, &odd)
+    let windows = Windows::of::<B>(history);
+    let columns = windows.columns::<B>();
+    let sums = columns.sums::<B>();
+    sums.outputs::<B>()
 }
 
 // One block of analysis. Any number of subbands but 4 counts as 8.
@@ -159,7 +178,8 @@ pub fn analyze(history: &mut [i16; 80], input: &[i16; 8], subbands: usize) -> [i
     ensures outputs { result ≡ padded (analysis_outputs (bands_of subbands) (shifted (bands_of subbands) history.old input.now)) }
     ensures within { Within 800000000 result }
 {
-    // Kept: one branch picks the type, since the number of subbands is known only as the program runs; it stands once a call.
+    // Kept: a number, and one branch on it, since any number is taken: a narrower type would ask more of callers. Who knows the bank calls
+    // `analyze_by`.
     if subbands == 4 {
         return analyze_by::<Four>(history, input);
     }

@@ -4,3 +4,4 @@ pub mod Lengths
 pub mod Ring
 pub mod Bounds
 pub mod Words
+pub mod Terms

@@ -1,18 +1,18 @@
 -- Entries of arrays, as the machine reads them back from their bits, and their sums and differences: that they fit, and what they are.
 -- Assumes nothing.
-use Prim.Native.Nat.{ℕ, ◌+◌, ◌*◌, ◌^◌, ◌≤◌, ◌<◌}
+use Prim.Native.Nat.{ℕ, ◌+◌, ◌^◌, ◌≤◌, ◌<◌}
 use mathlib.Core.Path.{◌≡◌, sym, ap, ap₂, ◌∙◌, subst}
 use mathlib.Core.List.{List}
-use native.Mathlib.Nat.{le_trans, add-le-add}
+use native.Mathlib.Nat.{le_trans}
 use native.Mathlib.Omega.{arith}
 use lib.ListN.{get_or}
 use lib.IntN.{ℤ, pos, nat_abs, ◌+ℤ◌, ◌-ℤ◌, ◌*ℤ◌}
-use mir.Syntax.{Width, w32}
+use mir.Syntax.{Width}
 use mir.Val.{SFits, hbits, to_z, of_z}
 use mir.Facts.{to_z-of_z}
 use Rattle.laws.specs.Integers.{Within, floor_div}
-use Rattle.laws.proofs.Abs.{nat_abs-+, nat_abs--, nat_abs-*-le, within-fits, sum_fits, difference-fits}
-use Rattle.laws.proofs.Floor.{nat_abs-floor, floor-fits}
+use Rattle.laws.proofs.Abs.{nat_abs-*-le, within-fits, sum_fits, difference-fits}
+use Rattle.laws.proofs.Floor.{floor-fits}
 
 -- an entry of an array within a
 pub read-entry : (w : Width) (xs : List ℤ) {a : ℕ} → Within a xs → a < 2 ^ hbits w → (i : ℕ)
@@ -33,29 +33,6 @@ signed-small s z h k = le_trans (nat_abs-*-le s z h k) (omega arith)
 
 pub signed-fits : (w : Width) (s z : ℤ) {a : ℕ} → nat_abs s ≤ 1 → nat_abs z ≤ a → a < 2 ^ hbits w → SFits w (s *ℤ z)
 signed-fits w s z h k l = within-fits w (s *ℤ z) (signed-small s z h k) l
-
--- an entry with a sign put on, and its sum with another
-module _ (w : Width) (xs : List ℤ) {a : ℕ} (p : Within a xs) (l : a + a < 2 ^ hbits w) where
-  pub signed-entry-fits : (s : ℤ) (j : ℕ) → nat_abs s ≤ 1 → SFits w (s *ℤ to_z w (of_z w (get_or xs j (pos 0))))
-  signed-entry-fits s j h = rw (read-entry w xs p (omega arith) j) (signed-fits w s (get_or xs j (pos 0)) h (p j) (omega arith))
-
-  plus-signed : (s : ℤ) (i j : ℕ) → nat_abs s ≤ 1
-      → to_z w (of_z w (get_or xs i (pos 0))) +ℤ to_z w (of_z w (s *ℤ to_z w (of_z w (get_or xs j (pos 0)))))
-      ≡ get_or xs i (pos 0) +ℤ s *ℤ get_or xs j (pos 0)
-  plus-signed s i j h =
-      ap₂ (λ (u v : ℤ). u +ℤ v) (read-entry w xs p (omega arith) i)
-      (to_z-of_z (signed-entry-fits s j h) ∙ ap (λ (v : ℤ). s *ℤ v) (read-entry w xs p (omega arith) j))
-
-  pub plus-signed-fits : (s : ℤ) (i j : ℕ) → nat_abs s ≤ 1
-      → SFits w (to_z w (of_z w (get_or xs i (pos 0))) +ℤ to_z w (of_z w (s *ℤ to_z w (of_z w (get_or xs j (pos 0))))))
-  plus-signed-fits s i j h =
-      subst (SFits w) (sym (plus-signed s i j h))
-      (sum_fits w (get_or xs i (pos 0)) (s *ℤ get_or xs j (pos 0)) (p i) (signed-small s (get_or xs j (pos 0)) h (p j)) l)
-
-  pub read-plus-signed : (s : ℤ) (i j : ℕ) → nat_abs s ≤ 1
-      → to_z w (of_z w (to_z w (of_z w (get_or xs i (pos 0))) +ℤ to_z w (of_z w (s *ℤ to_z w (of_z w (get_or xs j (pos 0)))))))
-      ≡ get_or xs i (pos 0) +ℤ s *ℤ get_or xs j (pos 0)
-  read-plus-signed s i j h = to_z-of_z (plus-signed-fits s i j h) ∙ plus-signed s i j h
 
 -- two entries of arrays within a and b, where a + b is in the range
 module _ (w : Width) (xs ys : List ℤ) {a b : ℕ} (p : Within a xs) (q : Within b ys) (l : a + b < 2 ^ hbits w) (i j : ℕ) where
@@ -78,21 +55,3 @@ module _ (w : Width) (xs ys : List ℤ) {a b : ℕ} (p : Within a xs) (q : Withi
   pub read-minus : to_z w (of_z w (to_z w (of_z w (get_or xs i (pos 0))) -ℤ to_z w (of_z w (get_or ys j (pos 0)))))
       ≡ get_or xs i (pos 0) -ℤ get_or ys j (pos 0)
   read-minus = to_z-of_z minus-fits ∙ minus
-
-  -- divided by 2 ^ 33, an i32 within c, where a + b is within c times that
-  module _ (c : ℕ) (k : a + b ≤ c * 2 ^ 33) (m : c < 2 ^ 31) where
-    pub plus-shifted : SFits w32
-        (floor_div (to_z w (of_z w (to_z w (of_z w (get_or xs i (pos 0))) +ℤ to_z w (of_z w (get_or ys j (pos 0)))))) (2 ^ 33))
-    plus-shifted =
-        rw read-plus
-        (within-fits w32 (floor_div (get_or xs i (pos 0) +ℤ get_or ys j (pos 0)) (2 ^ 33))
-        (nat_abs-floor (get_or xs i (pos 0) +ℤ get_or ys j (pos 0)) (2 ^ 33) c (omega arith)
-        (le_trans (nat_abs-+ (get_or xs i (pos 0)) (get_or ys j (pos 0))) (le_trans (add-le-add (p i) (q j)) k))) m)
-
-    pub minus-shifted : SFits w32
-        (floor_div (to_z w (of_z w (to_z w (of_z w (get_or xs i (pos 0))) -ℤ to_z w (of_z w (get_or ys j (pos 0)))))) (2 ^ 33))
-    minus-shifted =
-        rw read-minus
-        (within-fits w32 (floor_div (get_or xs i (pos 0) -ℤ get_or ys j (pos 0)) (2 ^ 33))
-        (nat_abs-floor (get_or xs i (pos 0) -ℤ get_or ys j (pos 0)) (2 ^ 33) c (omega arith)
-        (le_trans (nat_abs-- (get_or xs i (pos 0)) (get_or ys j (pos 0))) (le_trans (add-le-add (p i) (q j)) k))) m)

@@ -5,7 +5,7 @@ use Prim.Native.Nat.{ℕ, ◌+◌, ◌*◌, ◌-◌, ◌/◌, ◌^◌, ◌≤◌
 use mathlib.Core.Path.{◌≡◌, refl, sym, ap, ◌∙◌, subst}
 use mathlib.Core.Bool.{Bool, true, false}
 use mathlib.Core.List.{List}
-use native.Mathlib.Nat.{le_trans, mul-le-mul_right}
+use native.Mathlib.Nat.{le_trans}
 use native.Mathlib.Omega.{arith}
 use lib.Dec.{T, eqb, ltb, leb, lit≤}
 use lib.ListN.{length, get_or}
@@ -19,16 +19,17 @@ use Rattle.laws.specs.Sums.{sum_z, up_to, delta}
 use Rattle.laws.proofs.Cases.{by-test}
 use Rattle.laws.proofs.Ring.{*ℤ-assoc, one-*ℤ, minus-one-*ℤ}
 use Rattle.laws.proofs.Abs.{nat_abs-+, nat_abs-*-le}
-use Rattle.laws.proofs.Sums.{sum_z-ext, sum_z-*, sum_z-bound}
+use Rattle.laws.proofs.Sums.{sum_z-ext, sum_z-*}
 use Rattle.laws.proofs.Arrays.{get_or-filled, within-up_to}
 use Rattle.laws.proofs.Linear.{coefficient, folded}
 use Rattle.laws.proofs.Table.{eq_z, eq_z→eq, all_below, at, table-within}
 use Rattle.sbc_tables.specs.Tables.{cosines}
 use Rattle.sbc_filterbank.specs.Subbands.{Bands, cosine_at}
 use Rattle.sbc_filterbank.specs.Synthesis.{synthesis_cosine, modulate_term, modulated_at}
-use Rattle.sbc_filterbank.specs.Matrices.{Part}
-use Rattle.sbc_modulate.specs.Fold.{pair_sign, pair_of, row_odd, synthesis_rows, row_term, row_sum, row_source, row_sign, row_value}
+use Rattle.sbc_filterbank.specs.Matrices.{Part, product_term}
+use Rattle.sbc_modulate.specs.Fold.{pair_sign, pair_of, row_odd, synthesis_rows, row_sum, row_source, row_sign, row_value}
 use Rattle.sbc_filterbank.proofs.Bands.{for-bands, bands-le}
+use Rattle.sbc_filterbank.proofs.Terms.{products-within}
 
 pub halves : {S : ℕ} → Bands S → S ≡ 2 * (S / 2)
 halves b = for-bands (λ s. s ≡ 2 * (s / 2)) b refl refl
@@ -74,13 +75,13 @@ module _ (S : ℕ) (s : ℕ → ℤ) (sums differences : List ℤ) (p : (k : ℕ
 
 -- the sum with the pairs that its row takes
 module _ (S : ℕ) (M sums differences : List ℤ) (m : ℕ) (e : M ≡ synthesis_rows S) where
-  pub row-even : eqb (row_odd S m) 0 ≡ true → sum_z (S / 2) (row_term M sums (m * (S / 2))) ≡ row_sum S sums differences m
+  pub row-even : eqb (row_odd S m) 0 ≡ true → sum_z (S / 2) (product_term M sums (m * (S / 2))) ≡ row_sum S sums differences m
   unfolding row_sum
-  row-even q = rw q (ap (λ (l : List ℤ). sum_z (S / 2) (row_term l sums (m * (S / 2)))) e)
+  row-even q = rw q (ap (λ (l : List ℤ). sum_z (S / 2) (product_term l sums (m * (S / 2)))) e)
 
-  pub row-uneven : eqb (row_odd S m) 0 ≡ false → sum_z (S / 2) (row_term M differences (m * (S / 2))) ≡ row_sum S sums differences m
+  pub row-uneven : eqb (row_odd S m) 0 ≡ false → sum_z (S / 2) (product_term M differences (m * (S / 2))) ≡ row_sum S sums differences m
   unfolding row_sum
-  row-uneven q = rw q (ap (λ (l : List ℤ). sum_z (S / 2) (row_term l differences (m * (S / 2)))) e)
+  row-uneven q = rw q (ap (λ (l : List ℤ). sum_z (S / 2) (product_term l differences (m * (S / 2)))) e)
 
 -- ---- every row of V comes from a row of the matrix, with a sign of 1, 0 or -1
 pub source-below : {S : ℕ} (r : ℕ) → Bands S → r < 2 * S → row_source S r < S
@@ -183,19 +184,12 @@ row-asks {S} m M b h e =
       subst (Within (2 ^ 30)) (sym e) (matrix-within b),
     )
 
-pub row-part : (matrix pairs : List ℤ) (base n : ℕ) → Within (2 ^ 30) matrix → Within (2 ^ 30) pairs → n ≤ 4
-    → nat_abs (sum_z n (row_term matrix pairs base)) ≤ 2 ^ 62
-row-part matrix pairs base n wm wp h =
-    le_trans
-    (sum_z-bound n (2 ^ 30 * 2 ^ 30) (row_term matrix pairs base)
-    (λ k p. nat_abs-*-le (get_or matrix (base + k) (pos 0)) (get_or pairs k (pos 0)) (wm (base + k)) (wp k)))
-    (mul-le-mul_right (2 ^ 30 * 2 ^ 30) h)
-
 pub rows-within : {S : ℕ} (sums differences rows : List ℤ) → Bands S → Within (2 ^ 30) sums → Within (2 ^ 30) differences
     → rows ≡ build 8 (up_to S (row_sum S sums differences)) → Within (2 ^ 62) rows
 unfolding row_sum
 rows-within {S} sums differences rows b p q e =
     subst (Within (2 ^ 62)) (sym e)
     (within-up_to 8 S (2 ^ 62) (row_sum S sums differences)
-    (λ r h. row-part (synthesis_rows S) (if eqb (row_odd S r) 0 then sums else differences) (r * (S / 2)) (S / 2) (matrix-within b)
+    (λ r h. products-within (synthesis_rows S) (if eqb (row_odd S r) 0 then sums else differences) (r * (S / 2)) (S / 2) (2 ^ 30)
+    (matrix-within b)
     (by-test (Within (2 ^ 30)) (eqb (row_odd S r) 0) sums differences (λ _. p) (λ _. q)) (omega (arith, bands-le b))))

@@ -6,6 +6,7 @@ use Rattle.std.specs.Int.{w32}
 use Rattle.laws.specs.Lists.{collect, build}
 use Rattle.laws.specs.Integers.{floor_div, clamp_z}
 use Rattle.laws.specs.Sums.{sum_z}
+use Rattle.sbc_filterbank.specs.Matrices.{product_term}
 use Rattle.sbc_filterbank.specs.Synthesis.{synthesis_cosine}
 
 -- s[n] with its mirror s[S - 1 - n] added (odd = 0), or subtracted (1)
@@ -26,12 +27,10 @@ row_odd S m = (vector_row S m + S / 2) % 2
 unfoldable pub synthesis_rows : ℕ → List ℤ
 synthesis_rows S = collect S (λ m. build (S / 2) (λ n. synthesis_cosine S (vector_row S m) n))
 
--- entries of the matrix, from `at` on, times pairs; and all of row m
-abbrev pub row_term : List ℤ → List ℤ → ℕ → ℕ → ℤ
-row_term matrix pairs at n = get_or matrix (at + n) (pos 0) *ℤ get_or pairs n (pos 0)
-
+-- row m of the matrix times its pairs
 unfoldable pub row_sum : ℕ → List ℤ → List ℤ → ℕ → ℤ
-row_sum S sums differences m = sum_z (S / 2) (row_term (synthesis_rows S) (if eqb (row_odd S m) 0 then sums else differences) (m * (S / 2)))
+row_sum S sums differences m =
+    sum_z (S / 2) (product_term (synthesis_rows S) (if eqb (row_odd S m) 0 then sums else differences) (m * (S / 2)))
 
 -- row r of V: the row of the matrix that it comes from, and its sign; row S/2 is 0
 abbrev pub row_source : ℕ → ℕ → ℕ

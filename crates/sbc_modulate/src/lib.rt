@@ -9,11 +9,11 @@ mod matrices;
 ghost use Rattle.std.specs.Prelude.{◌≡◌, ◌+◌, ◌*◌, ◌/◌, ◌^◌, ◌≤◌, ◌<◌, eqb, get_or, pos};
 ghost use Rattle.laws.specs.Lists.{build};
 ghost use Rattle.laws.specs.Integers.{Within};
-ghost use Rattle.laws.specs.Sums.{sum_z, up_to, overwrite};
-ghost use Rattle.sbc_filterbank.specs.Matrices.{Part};
-ghost use Rattle.sbc_modulate.specs.Fold.{pair_of, row_odd, row_term, row_sum, row_source, row_sign, row_value};
+ghost use Rattle.laws.specs.Sums.{up_to, overwrite};
+ghost use Rattle.sbc_modulate.specs.Fold.{pair_of, row_odd, row_sum, row_source, row_sign, row_value};
 
 pub use matrices::SynthesisBank;
+use sbc_filterbank::products;
 use sbc_tables::Bank;
 
 // The S/2 sums of the samples with their mirrors, and the S/2 differences. The cosines of a row are equal or opposite at a sample and its
@@ -27,6 +27,8 @@ pub struct Pairs {
 }
 
 // The pairs of a block's samples.
+// Kept: the samples' bound in three contracts, here and in sbc_synthesize; no plainer otherwise: a block is lent as it stands in a frame,
+// and a struct with the bound would be made of it for each call and taken apart here.
 pub fn pair_all<B: Bank>(input: &[i32; 8]) -> Pairs
     requires { Within (2 ^ 29) input.now }
     ensures sums { result.sums ≡ build 4 (up_to (B.SUBBANDS / 2) (pair_of B.SUBBANDS 0 (λ k. get_or input.now k (pos 0)))) }
@@ -45,18 +47,6 @@ pub fn pair_all<B: Bank>(input: &[i32; 8]) -> Pairs
     Pairs { sums, differences }
 }
 
-// `count` entries of the matrix, from `at` on, times the pairs.
-fn row_sum(matrix: &[i32], pairs: &[i32; 4], at: usize, count: usize) -> i64
-    requires { (Within (2 ^ 30) pairs.now) × (Part matrix.now at count) }
-    ensures { result ≡ sum_z count (row_term matrix.now pairs.now at) }
-{
-    let mut sum = 0i64;
-    for n in 0..count {
-        sum = laws::multiply_add(sum, matrix[at + n], pairs[n]);
-    }
-    sum
-}
-
 // Row m of the matrix, times the sums or the differences.
 fn row<B: SynthesisBank>(pairs: &Pairs, m: usize) -> i64
     requires { m < B.SUBBANDS }
@@ -64,9 +54,9 @@ fn row<B: SynthesisBank>(pairs: &Pairs, m: usize) -> i64
 {
     let half = B::SUBBANDS / 2;
     if takes_sums::<B>(m) {
-        return row_sum(B::rows(), &pairs.sums, m * half, half);
+        return products(B::rows(), &pairs.sums, m * half, half);
     }
-    row_sum(B::rows(), &pairs.differences, m * half, half)
+    products(B::rows(), &pairs.differences, m * half, half)
 }
 
 // Whether row m takes the sums; the others take the differences. The matrix leaves out the rows that mirror others.

@@ -38,11 +38,6 @@ row_below {S} b j h = let q : b % 2 * S ≤ 1 * S = mul-le-mul_right S (omega ar
 pub place-in-below : {S : ℕ} (b j : ℕ) → j < S → vector_place S j b < 2 * S
 place-in-below {S} b j h = subst (λ (n : ℕ). n < 2 * S) (place_is S j b) (row_below b j h)
 
--- as if the slots went on: the place is below 320; up to the tenth slot it is the ring's, and past it 20 S too far
-pub place-ahead : {S : ℕ} (newest b : ℕ) → Bands S → newest < 10 → b < 10 → 2 * S * (newest + b) + b % 2 * S < 320
-place-ahead newest b s =
-    for-bands (λ s. newest < 10 → b < 10 → 2 * s * (newest + b) + b % 2 * s < 320) s (λ n h. omega arith) (λ n h. omega arith)
-
 -- the tap of output j and vector b
 pub tap-below : {S : ℕ} (j b : ℕ) → Bands S → j < S → b < 10 → b * S + j < 10 * S
 tap-below j b s = for-bands (λ s. j < s → b < 10 → b * s + j < 10 * s) s (λ l h. omega arith) (λ l h. omega arith)
@@ -57,9 +52,7 @@ place-first {S} newest j b s l h =
       subst (λ (x : ℕ). x < 160) (sym t) (place-below (newest + b) _ s h (row_below b j l)),
     )
 
-pub place-past : {S : ℕ} (newest b : ℕ) → Bands S → 10 ≤ newest + b → 20 * S ≤ 2 * S * (newest + b) + b % 2 * S
-place-past newest b s h = for-bands (λ s. 20 * s ≤ 2 * s * (newest + b) + b % 2 * s) s (omega arith) (omega arith)
-
+-- as if the slots went on: up to the tenth slot the place is the ring's, and past it 20 S too far
 back : {S : ℕ} (slot x : ℕ) → Bands S → 10 ≤ slot → 2 * S * slot + x - 20 * S ≡ 2 * S * (slot - 10) + x
 back slot x b h = for-bands (λ s. 2 * s * slot + x - 20 * s ≡ 2 * s * (slot - 10) + x) b (omega arith) (omega arith)
 

@@ -3,7 +3,7 @@
 use Prim.Native.Nat.{ℕ, suc, ◌+◌, ◌*◌, ◌-◌, ◌/◌, ◌^◌, ◌≤◌, ◌<◌}
 use mathlib.Core.Bool.{Bool, true, false}
 use mathlib.Core.Path.{◌≡◌, refl, sym, ap, ◌∙◌, subst}
-use native.Mathlib.Nat.{le_refl, le_trans, add-le-add}
+use native.Mathlib.Nat.{le_trans}
 use native.Mathlib.Omega.{arith}
 use lib.Dec.{ltb, lit≤, lit<}
 use lib.IntN.{ℤ, pos, negsuc, neg_ℤ, nat_abs, sub_ℕ, ◌+ℤ◌, ◌-ℤ◌, +ℤ_comm, +ℤ_idl}
@@ -11,7 +11,7 @@ use mir.Syntax.{w16, w32, w64}
 use mir.Val.{SFits}
 use borrow.Author.Tests.{eq-eqb, ne_eqb, ltb-true, ltb-false}
 use Rattle.laws.specs.Integers.{floor_div, clamp_z}
-use Rattle.laws.proofs.Abs.{nat_abs-+, nat_abs--, within-fits, sum_fits, difference-fits}
+use Rattle.laws.proofs.Abs.{nat_abs--, sum_fits, difference-fits}
 use Rattle.laws.proofs.Difference.{sub-of-le, sub-of-lt}
 use Rattle.laws.proofs.Floor.{nat_abs-floor}
 use Rattle.sbc_filterbank.specs.Subbands.{Bands}
@@ -29,19 +29,8 @@ module _ (z : ℤ) (m : ℕ) (l : output_bound ≤ 22000000 * m) (p : 0 < m) (h 
       let q : nat_abs (pos 0 -ℤ z) ≤ nat_abs z = omega (arith, nat_abs-- (pos 0) z) in
       nat_abs-floor (pos 0 -ℤ z) m 22000000 p (le_trans q (le_trans h l))
 
-  pub divided-fits : SFits w32 (floor_div (pos 0 -ℤ z) m)
-  divided-fits = within-fits w32 (floor_div (pos 0 -ℤ z) m) divided-small (lit< tt)
-
   pub one-more-fits : SFits w32 (floor_div (pos 0 -ℤ z) m +ℤ pos 1)
   one-more-fits = sum_fits w32 {a = 22000000} {b = 1} (floor_div (pos 0 -ℤ z) m) (pos 1) divided-small (lit≤ tt) (lit< tt)
-
-  half-small : nat_abs (floor_div (floor_div (pos 0 -ℤ z) m +ℤ pos 1) 2) ≤ 22000000
-  half-small =
-      nat_abs-floor (floor_div (pos 0 -ℤ z) m +ℤ pos 1) 2 22000000 (lit< tt)
-      (le_trans (nat_abs-+ (floor_div (pos 0 -ℤ z) m) (pos 1)) (le_trans (add-le-add divided-small (le_refl 1)) (lit≤ tt)))
-
-  pub half-fits : SFits w64 (floor_div (floor_div (pos 0 -ℤ z) m +ℤ pos 1) 2)
-  half-fits = within-fits w64 (floor_div (floor_div (pos 0 -ℤ z) m +ℤ pos 1) 2) half-small (lit< tt)
 
 -- half of 1 more than x ÷ m is x + m over 2 m, rounded down; n is 2 m
 module _ (m n : ℕ) (up : (a : ℕ) → (a / m + 1) / 2 ≡ (a + m) / n) (first : (a : ℕ) → a < m → (a / m ≡ 0) × ((m - suc a) / n ≡ 0))

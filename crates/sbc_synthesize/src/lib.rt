@@ -17,48 +17,55 @@ use sbc_filterbank::{Synthesis, advance};
 use sbc_modulate::{SynthesisBank, pair_all, push, row_all};
 use sbc_tables::{Bank, Eight, Four};
 
-// Where V_b[0], or V_b[S] for odd b, stands in the ring, with the S - 1 numbers that the other outputs take behind it: as if the ring's
-// slots went on, and back by the ten slots where they end.
-// Kept: `newest` below 10 in three contracts: a `Synthesis` may hold any number, and a narrower type would ask more of who makes one.
-fn place<B: Bank>(newest: usize, b: usize) -> usize
-    requires { (newest < 10) × (b < 10) }
-    ensures { (j : ℕ) → j < B.SUBBANDS
-        → (result + j ≡ 2 * B.SUBBANDS * ((newest + b) % 10) + vector_place B.SUBBANDS j b) × (result + j < 160) }
-{
-    let subbands = B::SUBBANDS;
-    let at = 2 * subbands * (newest + b) + b % 2 * subbands;
-    if newest + b < 10 {
-        return at;
-    }
-    at - 20 * subbands
+// The ring of the last ten vectors, with a slot of it as the newest.
+#[derive(Clone, Copy)]
+struct Ring<'a> {
+    values: &'a [i32; 160],
+    newest: usize,
+    ghost slot: { newest < 10 },
 }
 
-// The sums of the outputs over the b newest vectors, with the next vector's terms added.
-fn add_vector<B: Bank>(sums: &[i64; 8], history: &Synthesis, b: usize) -> [i64; 8]
-    requires { (history.now.newest < 10) × (b < 10)
-        × (OutputSums B.SUBBANDS (ring B.SUBBANDS history.now.values history.now.newest) b sums.now) }
-    ensures { OutputSums B.SUBBANDS (ring B.SUBBANDS history.now.values history.now.newest) (b + 1) result }
-{
-    let subbands = B::SUBBANDS;
-    let taps = B::prototype();
-    let at = place::<B>(history.newest, b);
-    let mut more = [0i64; 8];
-    for j in 0..subbands {
-        more[j] = laws::multiply_add(sums[j], taps[b * subbands + j], history.values[at + j]);
+impl<'a> Ring<'a> {
+    // Where V_b[0], or V_b[S] for odd b, stands in the ring, with the S - 1 numbers that the other outputs take behind it: as if the ring's
+    // slots went on, and back by the ten slots where they end.
+    fn place<B: Bank>(&self, b: usize) -> usize
+        requires { b < 10 }
+        ensures { (j : ℕ) → j < B.SUBBANDS
+            → (result + j ≡ 2 * B.SUBBANDS * ((self.now.newest + b) % 10) + vector_place B.SUBBANDS j b) × (result + j < 160) }
+    {
+        let subbands = B::SUBBANDS;
+        let at = 2 * subbands * (self.newest + b) + b % 2 * subbands;
+        if self.newest + b < 10 {
+            return at;
+        }
+        at - 20 * subbands
     }
-    more
-}
 
-// The sums of the outputs, before they are rounded.
-fn sums<B: Bank>(history: &Synthesis) -> [i64; 8]
-    requires { history.now.newest < 10 }
-    ensures { OutputSums B.SUBBANDS (ring B.SUBBANDS history.now.values history.now.newest) 10 result }
-{
-    let mut sums = [0i64; 8];
-    for b in 0..10 {
-        sums = add_vector::<B>(&sums, history, b);
+    // The sums of the outputs over the b newest vectors, with the next vector's terms added.
+    fn add_vector<B: Bank>(&self, sums: &[i64; 8], b: usize) -> [i64; 8]
+        requires { (b < 10) × (OutputSums B.SUBBANDS (ring B.SUBBANDS self.now.values.now self.now.newest) b sums.now) }
+        ensures { OutputSums B.SUBBANDS (ring B.SUBBANDS self.now.values.now self.now.newest) (b + 1) result }
+    {
+        let subbands = B::SUBBANDS;
+        let taps = B::prototype();
+        let at = self.place::<B>(b);
+        let mut more = [0i64; 8];
+        for j in 0..subbands {
+            more[j] = laws::multiply_add(sums[j], taps[b * subbands + j], self.values[at + j]);
+        }
+        more
     }
-    sums
+
+    // The sums of the outputs, before they are rounded.
+    fn sums<B: Bank>(&self) -> [i64; 8]
+        ensures { OutputSums B.SUBBANDS (ring B.SUBBANDS self.now.values.now self.now.newest) 10 result }
+    {
+        let mut sums = [0i64; 8];
+        for b in 0..10 {
+            sums = self.add_vector::<B>(&sums, b);
+        }
+        sums
+    }
 }
 
 // By how many bits a negated sum is shifted before the last one.
@@ -75,7 +82,7 @@ fn round<B: Bank>(sum: i64) -> i16
     requires { nat_abs sum ≤ output_bound }
     ensures { result ≡ rounded B.SUBBANDS sum }
 {
-    laws::clamp_i16(((laws::shift_down(0 - sum, first_bits::<B>()) + 1) >> 1) as i64)
+    laws::clamp_i16(i64::from((laws::shift_down(0 - sum, first_bits::<B>()) + 1) >> 1))
 }
 
 // The S outputs.
@@ -108,8 +115,12 @@ pub fn synthesize_by<B: SynthesisBank>(history: &mut Synthesis, input: &[i32; 8]
     push::<B>(&mut history.values, &rows, 2 * B::SUBBANDS * slot);
     // After the vector's stores, so that the compiler need not read it again.
     history.newest = slot;
-    let totals = sums::<B>(history);
-    output::<B>(&totals)
+    let ring = Ring {
+        values: &history.values,
+        newest: slot,
+    };
+    let sums = ring.sums::<B>();
+    output::<B>(&sums)
 }
 
 // One block of synthesis. Any number of subbands but 4 counts as 8.
@@ -121,7 +132,8 @@ pub fn synthesize(history: &mut Synthesis, input: &[i32; 8], subbands: usize) ->
     ensures outputs { result
         ≡ padded (synthesis_outputs (bands_of subbands) (ring (bands_of subbands) history.new.values history.new.newest)) }
 {
-    // Kept: one branch picks the type, since the number of subbands is known only as the program runs; it stands once a call.
+    // Kept: a number, and one branch on it, since any number is taken: a narrower type would ask more of callers. Who knows the bank calls
+    // `synthesize_by`.
     if subbands == 4 {
         return synthesize_by::<Four>(history, input);
     }

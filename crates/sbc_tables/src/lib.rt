@@ -39,16 +39,14 @@ impl Bank for Four {
 
     ghost bands = { inl refl };
 
+    #[tactic(auto, unfolding(crate::specs::Tables::prototype, crate::specs::Tables::prototype4))]
     fn prototype() -> &'static [i32] {
         &PROTOTYPE_4
     }
 
+    #[tactic(auto, unfolding(crate::specs::Tables::loudness_offsets, crate::specs::Tables::loudness_offsets4))]
     fn loudness_offsets(frequency: usize) -> &'static [i32] {
-        if frequency < 4 {
-            &LOUDNESS_OFFSETS_4[frequency]
-        } else {
-            &[]
-        }
+        row(&LOUDNESS_OFFSETS_4, frequency)
     }
 }
 
@@ -59,16 +57,24 @@ impl Bank for Eight {
 
     ghost bands = { inr refl };
 
+    #[tactic(auto, unfolding(crate::specs::Tables::prototype, crate::specs::Tables::prototype8))]
     fn prototype() -> &'static [i32] {
         &PROTOTYPE_8
     }
 
+    #[tactic(auto, unfolding(crate::specs::Tables::loudness_offsets, crate::specs::Tables::loudness_offsets8))]
     fn loudness_offsets(frequency: usize) -> &'static [i32] {
-        if frequency < 4 {
-            &LOUDNESS_OFFSETS_8[frequency]
-        } else {
-            &[]
-        }
+        row(&LOUDNESS_OFFSETS_8, frequency)
+    }
+}
+
+// A row of a table of four; past the last one there is none.
+fn row<const N: usize>(table: &'static [[i32; N]; 4], index: usize) -> &'static [i32]
+    ensures { result.now ≡ get_or table.now index [] }
+{
+    match table.get(index) {
+        Some(row) => row,
+        None => &[],
     }
 }
 
@@ -144,6 +150,7 @@ pub const COSINE: [i32; 32] = [
     1053110176,
 ];
 
+#[tactic(auto, unfolding(crate::specs::Tables::cosines))]
 pub fn cosines() -> [i32; 32]
     ensures { result ≡ cosines }
 {

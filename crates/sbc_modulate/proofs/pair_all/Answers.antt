@@ -37,12 +37,6 @@ loop-n-preserved g c =
           ∙ rw (c.SUBBANDS-subbands.ensures) (sym (pair-difference S (λ k. get_or X k (pos 0)) n))),
     )
 
-pub returns-clause-sums : goal.returns-clause-sums
-returns-clause-sums g c = filled 4 _ _ _ _ (omega arith) (omega arith) c.loop-n.invariant.1
-
-pub returns-clause-differences : goal.returns-clause-differences
-returns-clause-differences g c = filled 4 _ _ _ _ (omega arith) (omega arith) c.loop-n.invariant.2
-
 pub invariant_of-result : goal.invariant_of-result
 invariant_of-result g c =
     let S = g.B.Bank.SUBBANDS in

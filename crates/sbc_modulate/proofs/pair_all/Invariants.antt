@@ -1,7 +1,7 @@
 -- `sbc_modulate::pair_all` meets its contract. The loop's invariant: the places before n hold the sums and the differences, and the
 -- others 0.
 -- Assumes nothing.
-use Prim.Native.Nat.{◌-◌, ◌/◌, ◌≤◌}
+use Prim.Native.Nat.{◌/◌, ◌≤◌}
 use mathlib.Core.Path.{◌≡◌}
 use lib.IntN.{pos}
 use lib.ListN.{get_or}
@@ -15,6 +15,3 @@ invariant-loop-n g l =
     let S = g.B.Bank.SUBBANDS in
     (l.n ≤ S / 2) × (l.sums ≡ build 4 (up_to l.n (pair_of S 0 (λ k. get_or l.input k (pos 0)))))
     × (l.differences ≡ build 4 (up_to l.n (pair_of S 1 (λ k. get_or l.input k (pos 0)))))
-
-abbrev pub decreases-loop-n : goal.decreases-loop-n
-decreases-loop-n g l = g.B.Bank.SUBBANDS / 2 - l.n

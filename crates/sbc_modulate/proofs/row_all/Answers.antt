@@ -2,24 +2,12 @@
 -- Assumes nothing.
 use native.Mathlib.Omega.{arith}
 use mir.Syntax.{w64}
-use Rattle.laws.proofs.Arrays.{fill_none, filled, stored}
+use Rattle.laws.proofs.Arrays.{fill_none, stored}
 use Rattle.sbc_filterbank.proofs.Bands.{bands-le}
 use Rattle.sbc_modulate.proofs.row_all.Goals as goal
 
 pub loop-m-init : goal.loop-m-init
 loop-m-init g c = (omega arith, fill_none 8 _)
-
-pub row-requires : goal.row-requires
-row-requires g c = omega arith
-
-pub offset_bounds-rows-m : goal.offset_bounds-rows-m
-offset_bounds-rows-m g c = omega (arith, bands-le g.met.B.Bank.bands)
-
-pub bounds-rows-m : goal.bounds-rows-m
-bounds-rows-m g c = omega (arith, bands-le g.met.B.Bank.bands)
-
-pub overflow_step-m : goal.overflow_step-m
-overflow_step-m g c = omega (arith, bands-le g.met.B.Bank.bands)
 
 pub loop-m-preserved : goal.loop-m-preserved
 loop-m-preserved g c = (
@@ -27,6 +15,3 @@ loop-m-preserved g c = (
   stored w64 8 _ _ _ _ (record { sfits = c.row.type_inv }) (omega (arith, bands-le g.met.B.Bank.bands))
       c.loop-m.invariant.1 c.row.ensures,
 )
-
-pub returns : goal.returns
-returns g c = filled 8 _ _ _ _ (omega arith) (omega arith) c.loop-m.invariant.1

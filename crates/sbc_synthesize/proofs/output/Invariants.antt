@@ -1,7 +1,7 @@
 -- `sbc_synthesize::output` meets its contract. The loop's invariant: the places before j hold the definition's outputs, and the
 -- others 0.
 -- Assumes nothing.
-use Prim.Native.Nat.{◌-◌, ◌≤◌}
+use Prim.Native.Nat.{◌≤◌}
 use mathlib.Core.Path.{◌≡◌}
 use lib.IntN.{pos}
 use lib.ListN.{get_or}
@@ -12,6 +12,3 @@ use Rattle.sbc_synthesize.proofs.output.Given as goal
 
 abbrev pub invariant-loop-j : goal.invariant-loop-j
 invariant-loop-j g l = (l.j ≤ g.B.Bank.SUBBANDS) × (l.out ≡ build 8 (up_to l.j (λ n. rounded g.B.Bank.SUBBANDS (get_or l.sums n (pos 0)))))
-
-abbrev pub decreases-loop-j : goal.decreases-loop-j
-decreases-loop-j g l = g.B.Bank.SUBBANDS - l.j

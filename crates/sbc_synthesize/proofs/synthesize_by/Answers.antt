@@ -16,7 +16,7 @@ push-requires g c =
     )
 
 pub output-requires : goal.output-requires
-output-requires g c = output-sums-within _ _ g.met.B.Bank.bands c.sums-totals.ensures
+output-requires g c = output-sums-within _ _ g.met.B.Bank.bands c.sums-sums.ensures
 
 pub returns : goal.returns
 returns g c =
@@ -25,5 +25,5 @@ returns g c =
           vector-pushed c.args.input.now _ _ _ _ _ _ _ g.met.B.Bank.bands pairs.sums pairs.differences c.row_all-rows.ensures
           c.advance-slot.ensures (rw (c.SUBBANDS.ensures) at c.push.ensures);
       newest = c.advance-slot.ensures;
-      outputs = outputs-of _ _ _ g.met.B.Bank.bands c.sums-totals.ensures c.output.ensures;
+      outputs = outputs-of _ _ _ g.met.B.Bank.bands c.sums-sums.ensures c.output.ensures;
     }

@@ -7,7 +7,7 @@ use lib.IntN.{pos}
 use lib.ListN.{get_or}
 use lib.Signed.{mag}
 use native.Mathlib.Omega.{arith}
-use Rattle.sbc_analyze.proofs.History.{none-entered, store_up, spliced-at}
+use Rattle.sbc_analyze.proofs.History.{none-entered, store_up}
 use Rattle.sbc_analyze.proofs.analysis.enter.Goals as goal
 
 pub loop-k-init : goal.loop-k-init
@@ -20,6 +20,3 @@ loop-k-preserved g c =
       store_up _ _ _ _ _ _ (record { sfits = sample }) c.loop-k.invariant.1
           (ap (λ (s : ℕ). get_or c.args.input.now (s - 1 - c.loop-k.k) (pos 0)) c.SUBBANDS.ensures),
     )
-
-pub returns : goal.returns
-returns g c = spliced-at _ _ _ _ _ _ (omega arith) c.loop-k.invariant.1

@@ -1,7 +1,7 @@
 -- `sbc_analyze::analysis::enter` meets its contract. The loop's invariant: the first k places hold the newest samples, and the others what
 -- they held.
 -- Assumes nothing.
-use Prim.Native.Nat.{◌-◌, ◌≤◌}
+use Prim.Native.Nat.{◌≤◌}
 use mathlib.Core.Path.{◌≡◌}
 use lib.ListN.{length, get_or}
 use lib.IntN.{pos}
@@ -13,6 +13,3 @@ abbrev pub invariant-loop-k : goal.invariant-loop-k
 invariant-loop-k g l = (l.k ≤ g.B.Bank.SUBBANDS)
     × (l.history ≡ build (length l.initial.history)
     (spliced_at l.k (entering g.B.Bank.SUBBANDS l.input) (λ i. get_or l.initial.history i (pos 0))))
-
-abbrev pub decreases-loop-k : goal.decreases-loop-k
-decreases-loop-k g l = g.B.Bank.SUBBANDS - l.k
