@@ -1,8 +1,11 @@
 // A coder between the standard input and the standard output: what the programs that decode and encode a stream of any length share.
-ghost use Rattle.std.specs.Prelude.{◌≡◌, ℕ, ◌≤◌, List, length, take, IfOk, OnOk};
+ghost use Rattle.std.specs.Prelude.{◌≡◌, ℕ, ◌≤◌, List, [], length, take, IfOk, OnOk};
+ghost use Rattle.std.specs.Io.KnownBytes.{Consumes};
+ghost use Rattle.stream.specs.Held.{holding};
+ghost use Rattle.stream.specs.Runs.{Reaches, Ran};
 ghost use Rattle.stream.specs.declared.running.Stop.TheVariants.{Refused, Failed};
 
-use crate::{keep, read_on, report};
+use crate::Buffer;
 use codec::Error;
 use std::io;
 use std::io::Read;
@@ -48,49 +51,55 @@ pub trait Coder {
         ensures { ends self.old self.new };
 }
 
-// Has a reader's bytes coded to their end, by way of the buffer: at the end the coder takes none of what is left.
+// Has a reader's bytes coded to their end, by way of the buffer's bytes; at the end the coder takes none of what is left.
 pub fn run<C: Coder, R: Read>(
     coder: &mut C,
     rt: &impl Print,
     reader: &mut R,
     bytes: &mut [u8],
 ) -> Result<(), Stop>
-    ensures { OnOk result ((last : C) × (left : List ℕ) × C.codes last left 0 coder.new) }
+    ensures { OnOk result ((came : List ℕ) × Consumes (R.remaining reader.old) (R.remaining reader.new) came
+        × Ran C.codes C.ends coder.old came coder.new) }
 {
-    let mut held = 0;
+    let mut buffer = Buffer::new(bytes, 0);
+    code_coming(coder, rt, reader, &mut buffer)?;
+    coder.finish();
+    code_held(coder, rt, &mut buffer)
+}
+
+// Has what is held coded, and what comes from a reader behind it, until no more comes.
+//
+// Kept: the loop counts its turns, up to a number that no run uses up. A proved loop has to end, and nothing says that the input does.
+fn code_coming<C: Coder, R: Read>(
+    coder: &mut C,
+    rt: &impl Print,
+    reader: &mut R,
+    buffer: &mut Buffer,
+) -> Result<(), Stop>
+    ensures { OnOk result ((came : List ℕ) × Consumes (R.remaining reader.old) (R.remaining reader.new) came
+        × Reaches C.codes coder.old (holding buffer.old) came coder.new (holding buffer.new)) }
+{
     for _ in 0..u64::MAX {
-        held = code_held(coder, rt, bytes, held)?;
-        let came = read_on(reader, bytes, held);
-        if came == 0 {
+        code_held(coder, rt, buffer)?;
+        if buffer.read_on(reader) == 0 {
             break;
         }
-        held += came;
     }
-    coder.finish();
-    code_held(coder, rt, bytes, held)?;
     Ok(())
 }
 
-// Has the first bytes coded until the coder takes none of them, and answers how many are left; they stand in front.
-#[tactic(auto, unfolding(crate::specs::Kept::kept_count, crate::specs::Kept::keeps))]
-fn code_held<C: Coder>(
-    coder: &mut C,
-    rt: &impl Print,
-    bytes: &mut [u8],
-    held: usize,
-) -> Result<usize, Stop>
-    requires { held ≤ length bytes.old }
-    ensures left { IfOk result (λ left. left ≤ held) }
-    ensures length { length bytes.new ≡ length bytes.old }
-    ensures none { IfOk result (λ left. (last : C) × C.codes last (take left bytes.new) 0 coder.new) }
+// Has the bytes that are held coded until the coder takes none of them.
+#[tactic(auto, using(crate::proofs::Kept::kept_count_is))]
+fn code_held<C: Coder>(coder: &mut C, rt: &impl Print, buffer: &mut Buffer) -> Result<(), Stop>
+    ensures { OnOk result ((last : C) × Reaches C.codes coder.old (holding buffer.old) [] last (holding buffer.new)
+        × C.codes last (holding buffer.new) 0 coder.new) }
 {
-    let mut left = held;
     loop {
-        let used = coder.code(rt, &bytes[..left])?;
+        let used = coder.code(rt, buffer.held())?;
         if used == 0 {
-            return Ok(left);
+            return Ok(());
         }
-        left = keep(bytes, used, left);
+        buffer.keep(used);
     }
 }
 
@@ -101,7 +110,10 @@ pub fn told(rt: &impl Eprint, done: Result<(), Stop>) -> io::Result<()>
 {
     match done {
         Ok(()) => Ok(()),
-        Err(Stop::Refused(error)) => report(rt, u8::from(error)),
+        Err(Stop::Refused(error)) => {
+            let number = u8::from(error);
+            eprintln!(rt; "{number}")
+        }
         Err(Stop::Failed(error)) => Err(error),
     }
 }
