@@ -25,9 +25,9 @@ pub kept_left : (bytes new : List ℕ) (used held left : ℕ) → held ≤ lengt
 kept_left bytes new used held left fits e q =
     let count : left ≡ held - used = e ∙ kept_count_is (length bytes) used held fits in
     elim (cases_lt held used) [
-      inl more ↦
-        let none : left ≡ 0 = omega arith in
-        ap (λ n. take n new) none ∙ sym (drop_of_length-le (take held bytes) (omega (arith, length-take held bytes)))
-    | inr fewer ↦
-        ap₂ (λ n l. take n l) count q ∙ kept-front bytes used held fewer fits ∙ sym (front-drop bytes used (held - used) held (omega arith))
+      | inl more ↦
+          let none : left ≡ 0 = omega arith in
+          ap (λ n. take n new) none ∙ sym (drop_of_length-le (take held bytes) (omega (arith, length-take held bytes)))
+      | inr fewer ↦
+          ap₂ (λ n l. take n l) count q ∙ kept-front bytes used held fewer fits ∙ sym (front-drop bytes used (held - used) held (omega arith))
     ]

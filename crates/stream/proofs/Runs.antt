@@ -24,14 +24,12 @@ module _ {C : Type 0} {codes : C → List ℕ → ℕ → C → Type 0} where
       → (came : List ℕ) × Consumes reader reader came × Reaches codes coder held came coder held
   none-came reader coder held = ([], Consumes-nil reader, starts)
 
-  -- after what is held is coded, until a call takes nothing, and a read
-  pub more-came : {first next before_last last : C} {before came held left : List ℕ} (from till end : Option (List ℕ)) (more now : List ℕ)
+  -- after what is held is coded, until a call takes nothing, and a read, which put m bytes behind the n that were left
+  pub more-came : {first next before_last last : C} {before came held left : List ℕ} (from till end : Option (List ℕ)) (bytes : List ℕ) (n m count : ℕ)
       → Consumes from till came → Reaches codes first before came next held → Reaches codes next held [] before_last left
-      → codes before_last left 0 last → Consumes till end more → now ≡ left ++ more
-      → (came : List ℕ) × Consumes from end came × Reaches codes first before came last now
-  more-came {came = came} from till end more now k r s c l e =
-      (came ++ more, Consumes-trans from till end came more k l, rw e (comes more (takes 0 (rw append-nil at (joined r s)) c)))
-
--- what is held after a read: what was held, and what came
-pub held-more : (bytes held : List ℕ) (n m count : ℕ) → count ≡ n + m → take n bytes ≡ held → take count bytes ≡ held ++ take m (drop n bytes)
-held-more bytes held n m count e q = ap (λ k. take k bytes) e ∙ take-add n m bytes ∙ ap (λ l. l ++ take m (drop n bytes)) q
+      → codes before_last left 0 last → Consumes till end (take m (drop n bytes)) → count ≡ n + m → take n bytes ≡ left
+      → (came : List ℕ) × Consumes from end came × Reaches codes first before came last (take count bytes)
+  more-came {came = came} from till end bytes n m count k r s c l e q =
+      let more = take m (drop n bytes) in
+      let now : take count bytes ≡ _ ++ more = ap (λ i. take i bytes) e ∙ take-add n m bytes ∙ ap (λ b. b ++ more) q in
+      (came ++ more, Consumes-trans from till end came more k l, rw now (comes more (takes 0 (rw append-nil at (joined r s)) c)))

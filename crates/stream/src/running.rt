@@ -3,19 +3,34 @@ ghost use Rattle.std.specs.Prelude.{◌≡◌, ℕ, ◌≤◌, List, [], length,
 ghost use Rattle.std.specs.Io.KnownBytes.{Consumes};
 ghost use Rattle.stream.specs.Held.{holding};
 ghost use Rattle.stream.specs.Runs.{Reaches, Ran};
+ghost use Rattle.stream.specs.Stops.{stop_text};
 ghost use Rattle.stream.specs.declared.running.Stop.TheVariants.{Refused, Failed};
 
 use crate::Buffer;
 use codec::Error;
-use std::io;
 use std::io::Read;
+use std::{error, fmt, io};
 
 // Why a program stops before its input ends.
-#[derive(Drop)]
+#[derive(Debug, Drop)]
 pub enum Stop {
     Refused(Error),
     Failed(io::Error),
 }
+
+// A refusal is shown by its number, a failure as it shows itself.
+impl fmt::Display for Stop {
+    ghost output = { stop_text };
+
+    fn fmt<W: fmt::Write>(&self, f: &mut fmt::Formatter<W>) -> fmt::Result {
+        match self {
+            Stop::Refused(refusal) => u8::from(*refusal).fmt(f),
+            Stop::Failed(failure) => failure.fmt(f),
+        }
+    }
+}
+
+impl error::Error for Stop {}
 
 impl From<Error> for Stop {
     ghost from_gives = { λ error stop. stop ≡ Refused error };
@@ -110,10 +125,7 @@ pub fn told(rt: &impl Eprint, done: Result<(), Stop>) -> io::Result<()>
 {
     match done {
         Ok(()) => Ok(()),
-        Err(Stop::Refused(error)) => {
-            let number = u8::from(error);
-            eprintln!(rt; "{number}")
-        }
         Err(Stop::Failed(error)) => Err(error),
+        Err(refused) => eprintln!(rt; "{refused}"),
     }
 }

@@ -1,6 +1,6 @@
 -- A turn codes what is held and reads on; so does the last, whose read brings none.
 -- Assumes nothing.
-use Rattle.stream.proofs.Runs.{none-came, more-came, held-more}
+use Rattle.stream.proofs.Runs.{none-came, more-came}
 use Rattle.stream.proofs.running.code_coming.Goals as goal
 
 pub loop-init : goal.loop-init
@@ -11,11 +11,11 @@ loop-preserved g c =
     let i = c.loop.invariant in
     let h = c.in_ok-code_held.ensures in
     let r = c.read_on.ensures in
-    more-came _ _ _ _ _ i.1 i.2 h.1 h.2 r.bytes (held-more _ _ _ _ _ r.came r.held)
+    more-came _ _ _ _ _ _ _ i.1 i.2 h.1 h.2 r.bytes r.came r.held
 
 pub returns-then-read_on-eq0 : goal.returns-then-read_on-eq0
 returns-then-read_on-eq0 g c =
     let i = c.loop.invariant in
     let h = c.in_ok-code_held.ensures in
     let r = c.read_on.ensures in
-    more-came _ _ _ _ _ i.1 i.2 h.1 h.2 r.bytes (held-more _ _ _ _ _ r.came r.held)
+    more-came _ _ _ _ _ _ _ i.1 i.2 h.1 h.2 r.bytes r.came r.held
