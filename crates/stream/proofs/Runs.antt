@@ -19,6 +19,11 @@ module _ {C : Type 0} {codes : C → List ℕ → ℕ → C → Type 0} where
   joined {came = came} r (comes next s) = rw (← append_assoc) (comes next (joined r s))
   joined r (takes used s c) = takes used (joined r s) c
 
+  -- and while nothing comes
+  pub going-on : {first next last : C} {before came held left : List ℕ} → Reaches codes first before came next held
+      → Reaches codes next held [] last left → Reaches codes first before came last left
+  going-on r s = rw append-nil at (joined r s)
+
   -- before anything came
   pub none-came : (reader : Option (List ℕ)) (coder : C) (held : List ℕ)
       → (came : List ℕ) × Consumes reader reader came × Reaches codes coder held came coder held
@@ -32,4 +37,4 @@ module _ {C : Type 0} {codes : C → List ℕ → ℕ → C → Type 0} where
   more-came {came = came} from till end bytes n m count k r s c l e q =
       let more = take m (drop n bytes) in
       let now : take count bytes ≡ _ ++ more = ap (λ i. take i bytes) e ∙ take-add n m bytes ∙ ap (λ b. b ++ more) q in
-      (came ++ more, Consumes-trans from till end came more k l, rw now (comes more (takes 0 (rw append-nil at (joined r s)) c)))
+      (came ++ more, Consumes-trans from till end came more k l, rw now (comes more (takes 0 (going-on r s) c)))

@@ -1,5 +1,6 @@
 -- A coder's way through a stream, by what its trait says of a call (`codes`) and of the end (`ends`).
 use Rattle.std.specs.Prelude.{ℕ, List, [], ◌++◌, drop}
+use Rattle.codec.specs.declared.Error.{Error}
 
 -- From one coder, with some bytes held, to another, with others held, by calls and by bytes that come: those that come are put behind
 -- those that are held, a call sees all that are held, and as many as it takes go from their front.
@@ -22,3 +23,12 @@ pub record Ran {C : Type 0} (codes : C → List ℕ → ℕ → C → Type 0) (e
   pub finished : ends reached ended
   pub emptied : Reaches codes ended held [] before left
   pub stalled : codes before left 0 last
+
+-- A run over the bytes that came which a refusal stopped: before their end was said, or after it.
+pub data Broke {C : Type 0} (codes : C → List ℕ → ℕ → C → Type 0) (ends : C → C → Type 0) (refuses : C → List ℕ → Error → C → Type 0) :
+    C → List ℕ → Error → C → Type 0 where
+  before_end : {first reached last : C} {came held : List ℕ} {error : Error} → Reaches codes first [] came reached held
+      → refuses reached held error last → Broke codes ends refuses first came error last
+  behind_end : {first reached ended before last : C} {came held left : List ℕ} {error : Error} → Reaches codes first [] came reached held
+      → ends reached ended → Reaches codes ended held [] before left → refuses before left error last
+      → Broke codes ends refuses first came error last

@@ -1,8 +1,9 @@
 // A coder between the standard input and the standard output: what the programs that decode and encode a stream of any length share.
 ghost use Rattle.std.specs.Prelude.{◌≡◌, ℕ, ◌≤◌, List, [], length, take, IfOk, OnOk};
+ghost use Rattle.codec.specs.declared.Error.{Error};
 ghost use Rattle.std.specs.Io.KnownBytes.{Consumes};
 ghost use Rattle.stream.specs.Held.{holding};
-ghost use Rattle.stream.specs.Runs.{Reaches, Ran};
+ghost use Rattle.stream.specs.Runs.{Reaches, Ran, Broke};
 ghost use Rattle.stream.specs.Stops.{stop_text};
 ghost use Rattle.stream.specs.declared.running.Stop.TheVariants.{Refused, Failed};
 
@@ -53,13 +54,17 @@ pub trait Coder {
     // Whether the coder takes so many of these bytes, and which coder it is then.
     ghost codes: { Self → List ℕ → ℕ → Self → Type 0 };
 
+    // Whether the coder refuses these bytes, why, and which coder it is then; one that says nothing of it leaves this open.
+    ghost refuses: { Self → List ℕ → Error → Self → Type 0 } = { λ coder bytes error next. Unit {0} };
+
     // Which coder it is at the end of the bytes.
     ghost ends: { Self → Self → Type 0 };
 
     // Takes some of the bytes, from their front, and answers how many: none where it has to see more of them.
     fn code(&mut self, rt: &impl Print, bytes: &[u8]) -> Result<usize, Stop>
         ensures within { IfOk result (λ used. used ≤ length bytes.now) }
-        ensures coded { IfOk result (λ used. codes self.old bytes.now used self.new) };
+        ensures coded { IfOk result (λ used. codes self.old bytes.now used self.new) }
+        ensures refused { (error : _) → result ≡ Err (Stop.Refused error) → refuses self.old bytes.now error self.new };
 
     // Says that no byte comes behind those that are held.
     fn finish(&mut self)
@@ -73,8 +78,10 @@ pub fn run<C: Coder, R: Read>(
     reader: &mut R,
     bytes: &mut [u8],
 ) -> Result<(), Stop>
-    ensures { OnOk result ((came : List ℕ) × Consumes (R.remaining reader.old) (R.remaining reader.new) came
+    ensures ran { OnOk result ((came : List ℕ) × Consumes (R.remaining reader.old) (R.remaining reader.new) came
         × Ran C.codes C.ends coder.old came coder.new) }
+    ensures refused { (error : _) → result ≡ Err (Stop.Refused error) → (came : List ℕ)
+        × Consumes (R.remaining reader.old) (R.remaining reader.new) came × Broke C.codes C.ends C.refuses coder.old came error coder.new }
 {
     let mut buffer = Buffer::new(bytes, 0);
     code_coming(coder, rt, reader, &mut buffer)?;
@@ -91,8 +98,11 @@ fn code_coming<C: Coder, R: Read>(
     reader: &mut R,
     buffer: &mut Buffer,
 ) -> Result<(), Stop>
-    ensures { OnOk result ((came : List ℕ) × Consumes (R.remaining reader.old) (R.remaining reader.new) came
+    ensures coded { OnOk result ((came : List ℕ) × Consumes (R.remaining reader.old) (R.remaining reader.new) came
         × Reaches C.codes coder.old (holding buffer.old) came coder.new (holding buffer.new)) }
+    ensures refused { (error : _) → result ≡ Err (Stop.Refused error) → (came : List ℕ) × (last : C)
+        × Consumes (R.remaining reader.old) (R.remaining reader.new) came
+        × Reaches C.codes coder.old (holding buffer.old) came last (holding buffer.new) × C.refuses last (holding buffer.new) error coder.new }
 {
     for _ in 0..u64::MAX {
         code_held(coder, rt, buffer)?;
@@ -106,8 +116,10 @@ fn code_coming<C: Coder, R: Read>(
 // Has the bytes that are held coded until the coder takes none of them.
 #[tactic(auto, using(crate::proofs::Kept::kept_count_is))]
 fn code_held<C: Coder>(coder: &mut C, rt: &impl Print, buffer: &mut Buffer) -> Result<(), Stop>
-    ensures { OnOk result ((last : C) × Reaches C.codes coder.old (holding buffer.old) [] last (holding buffer.new)
+    ensures coded { OnOk result ((last : C) × Reaches C.codes coder.old (holding buffer.old) [] last (holding buffer.new)
         × C.codes last (holding buffer.new) 0 coder.new) }
+    ensures refused { (error : _) → result ≡ Err (Stop.Refused error) → (last : C)
+        × Reaches C.codes coder.old (holding buffer.old) [] last (holding buffer.new) × C.refuses last (holding buffer.new) error coder.new }
 {
     loop {
         let used = coder.code(rt, buffer.held())?;
