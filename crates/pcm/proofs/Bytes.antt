@@ -1,17 +1,18 @@
 -- The library's words for a sample's two's complement and for its bytes are those of `Samples`.
 -- Assumes nothing.
-use Prim.Native.Nat.{ℕ, suc, ◌+◌, ◌-◌, ◌*◌, ◌/◌, ◌%◌, ◌^◌}
+use Prim.Native.Nat.{ℕ, zero, suc, ◌+◌, ◌-◌, ◌*◌, ◌/◌, ◌%◌, ◌^◌, ◌<◌, ◌≤◌}
 use mathlib.Core.Path.{◌≡◌, refl, ap, ◌∙◌}
 use mathlib.Core.Bool.{Bool, true, false}
 use mathlib.Core.List.{List, [], ◌∷◌}
 use native.Mathlib.Omega.{arith}
 use lib.Dec.{ltb}
-use lib.ListN.{get_or}
+use lib.ListN.{get_or, length}
 use lib.IntN.{ℤ, pos, negsuc}
 use mir.Syntax.{w16}
 use mir.Val.{SFits, to_z, of_z, sel}
 use mir.Facts.{to_z-of_z}
 use Rattle.std.specs.Prelude.{if◌then◌else◌}
+use Rattle.std.specs.Simd.{first_chunks}
 use Rattle.pcm.specs.Samples.{signed_of, unsigned_of, sample_of, low_byte, high_byte}
 
 signed : (n : ℕ) → to_z w16 n ≡ signed_of n
@@ -27,10 +28,27 @@ unfolding unsigned_of
 unsigned (pos n) = refl
 unsigned (negsuc n) = omega arith
 
--- `i16::from_le_bytes` of two bytes
-pub read-sample : (low high : ℕ) → to_z w16 (low + high * 256) ≡ sample_of low high
+-- the two bytes of pair i
+pair-at : (n i : ℕ) (bytes pair : List ℕ) → i < n → 2 * n ≤ length bytes
+    → get_or (first_chunks 2 n bytes) i pair ≡ (get_or bytes (2 * i) 0 ∷ get_or bytes (2 * i + 1) 0 ∷ [])
+pair-at zero i bytes pair h fits = absurd (omega arith)
+pair-at (suc n) i [] pair h fits = absurd (omega arith)
+pair-at (suc n) i (a ∷ []) pair h fits = absurd (omega arith)
+pair-at (suc n) zero (a ∷ b ∷ bytes) pair h fits = refl
+pair-at (suc n) (suc i) (a ∷ b ∷ bytes) pair h fits =
+    let two : 2 * suc i ≡ suc (suc (2 * i)) = omega arith in
+    let odd : 2 * suc i + 1 ≡ suc (suc (2 * i + 1)) = omega arith in
+    rw (odd, two) (pair-at n i bytes pair (omega arith) (omega arith))
+
+-- `i16::from_le_bytes` of pair i
+pub read-sample : (n i : ℕ) (bytes pair : List ℕ) → i < n → 2 * n ≤ length bytes → pair ≡ get_or (first_chunks 2 n bytes) i []
+    → to_z w16 (get_or pair 0 0 + get_or pair 1 0 * 256) ≡ sample_of (get_or bytes (2 * i) 0) (get_or bytes (2 * i + 1) 0)
 unfolding sample_of
-read-sample low high = let e : low + high * 256 ≡ low + 256 * high = omega arith in ap (to_z w16) e ∙ signed (low + 256 * high)
+read-sample n i bytes pair h fits e =
+    let low : ℕ = get_or bytes (2 * i) 0 in
+    let high : ℕ = get_or bytes (2 * i + 1) 0 in
+    let f : low + high * 256 ≡ low + 256 * high = omega arith in
+    ap (λ l. to_z w16 (get_or l 0 0 + get_or l 1 0 * 256)) (e ∙ pair-at n i bytes [] h fits) ∙ ap (to_z w16) f ∙ signed (low + 256 * high)
 
 -- what `i16::to_le_bytes` gives, of a sample that the machine reads back from its bits
 pub written-sample : (z : ℤ) (bytes : List ℕ) → SFits w16 z

@@ -11,9 +11,10 @@ pub fn read(bytes: &[u8], samples: &mut [i16])
     requires { length bytes.now ≡ 2 * length samples.old }
     ensures { samples.new ≡ samples_in (length samples.old) bytes.now }
 {
-    // Kept: the index, since the two bytes of a sample stand at twice its index.
+    let (pairs, _) = bytes.as_chunks::<2>();
+    // Kept: the index. With `samples.iter_mut().zip(pairs)` the goal `returns` stays open: a proof then knows the samples' number alone.
     for (i, sample) in samples.iter_mut().enumerate() {
-        *sample = i16::from_le_bytes([bytes[2 * i], bytes[2 * i + 1]]);
+        *sample = i16::from_le_bytes(pairs[i]);
     }
 }
 
@@ -24,7 +25,7 @@ pub fn write(samples: &[i16], bytes: &mut [u8])
     ensures { bytes.new
         ≡ collect (length samples.now) (λ i. low_byte (get_or samples.now i (pos 0)) ∷ high_byte (get_or samples.now i (pos 0)) ∷ []) }
 {
-    // Kept: the index, as in `read`.
+    // Kept: the index. With `bytes.chunks_exact_mut(2).zip(samples)` the goal `returns` stays open, as in `read`.
     for (i, sample) in samples.iter().enumerate() {
         let [low, high] = sample.to_le_bytes();
         bytes[2 * i] = low;

@@ -1,11 +1,11 @@
 -- `pcm::read` meets its contract. The loop's invariant: the first i samples are read.
 -- Assumes nothing.
-use Prim.Native.Nat.{ℕ, ◌+◌, ◌<◌}
+use Prim.Native.Nat.{ℕ, ◌+◌, ◌/◌, ◌<◌}
 use mathlib.Core.Path.{◌≡◌, sym, ap, ap₂, ◌∙◌}
 use mathlib.Core.List.{List, [], ◌∷◌, ◌++◌}
 use native.Mathlib.Numerals.{add-one}
 use native.Mathlib.Omega.{arith}
-use lib.ListN.{length, take, set}
+use lib.ListN.{length, get_or, take, set}
 use lib.Seq.{take-suc-set}
 use lib.IntN.{ℤ}
 use mir.Syntax.{w16}
@@ -25,5 +25,8 @@ read_next f xs i v h e q =
 pub loop-i-preserved : goal.loop-i-preserved
 loop-i-preserved c =
     let l = c.loop-i in
-    let value = to_z-of_z {w = w16} (record { sfits = c.from_le_bytes.type_inv }) ∙ c.from_le_bytes.ensures ∙ read-sample _ _ in
+    let bytes = c.args.bytes.now in
+    let at = ap (λ pairs. get_or pairs l.i []) c.as_chunks.ensures.front in
+    let pair = read-sample (length bytes / 2) l.i bytes _ (omega arith) (omega arith) at in
+    let value = to_z-of_z {w = w16} (record { sfits = c.from_le_bytes.type_inv }) ∙ c.from_le_bytes.ensures ∙ pair in
     read_next _ l.samples l.i _ (omega arith) l.invariant value
