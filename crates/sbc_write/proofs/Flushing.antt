@@ -1,5 +1,4 @@
--- Bits that are written one field after the other and flushed by bytes: a field taken up, a byte flushed, the last byte, and one field more of
--- a list of fields.
+-- Bits that are written one field after the other and flushed by bytes: a field taken up, a byte flushed, and the last byte.
 -- Assumes nothing.
 use Prim.Native.Nat.{ℕ, zero, suc, ◌+◌, ◌-◌, ◌*◌, ◌/◌, ◌%◌, ◌^◌, ◌≤◌, ◌<◌}
 use mathlib.Core.Path.{◌≡◌, refl, sym, ap, ap₂, ◌∙◌, subst}
@@ -12,12 +11,11 @@ use lib.ListN.{length, take, drop, set, replicate, length-append}
 use lib.Seq.{length-take-le, take_all, take-suc-set, drop-drop}
 use lib.Pow.{pow-add, split, high, shr_lt, shl_exact}
 use lib.Arith.{digits_lt}
-use Rattle.laws.specs.Lists.{collect}
 use Rattle.laws.specs.Bits.{odd, bits_of, bits_of_bytes, bytes_of}
 use Rattle.laws.proofs.Bits.{length-bits_of, length-bits_of_bytes, bits-low, bits-append, bits-of-append, bytes_bits, Bytes}
 use Rattle.sbc_frame.specs.Layout.{filled}
-use Rattle.sbc_write.specs.declared.writer.Writer.{Writer}
-use Rattle.sbc_write.specs.Writing.{bits_behind, bits_in}
+use Rattle.sbc_write.specs.declared.Writer.{Writer}
+use Rattle.sbc_write.specs.Writing.{bits_behind, bits_in, Wrote}
 
 -- ---- numbers
 -- a number of n bits behind one of m bits has m + n
@@ -34,7 +32,15 @@ byte-lt held bits h k =
 pub unit : (n : ℕ) → n < 64 → (1 * 2 ^ n) % 2 ^ 64 ≡ 2 ^ n
 unit n h = shl_exact 1 n 64 (omega arith) (omega arith) ∙ one-mul (2 ^ n)
 
--- ---- the bytes behind
+-- ---- the bytes
+-- a byte stored among bytes
+pub bytes-set : (xs : List ℕ) (i x : ℕ) → x < 256 → Bytes xs → Bytes (set xs i x)
+bytes-set [] i x h k j = k j
+bytes-set (y ∷ xs) zero x h k zero = h
+bytes-set (y ∷ xs) zero x h k (suc j) = k (suc j)
+bytes-set (y ∷ xs) (suc i) x h k zero = k 0
+bytes-set (y ∷ xs) (suc i) x h k (suc j) = bytes-set xs i x h (λ n. k (suc n)) j
+
 -- what is behind n stays, and then what is behind m, further on
 pub behind_more : (n m : ℕ) (xs ys zs : List ℕ) → n ≤ m → drop n ys ≡ drop n xs → drop m zs ≡ drop m ys → drop m zs ≡ drop m xs
 behind_more n m xs ys zs le h k =
@@ -96,7 +102,8 @@ module _ (bytes : List ℕ) (at held bits : ℕ) where
       ∙ omega (arith, length-bits_of_bytes (take at bytes), length-take-le at bytes h, length-bits_of held bits)
 
 -- bytes whose bits are some bits and zeros
-filled-by : (bytes : List ℕ) (bits : List Bool) → Bytes bytes → bits_of_bytes bytes ≡ bits ++ replicate (8 * length bytes - length bits) false
+filled-by : (bytes : List ℕ) (bits : List Bool) → Bytes bytes
+    → bits_of_bytes bytes ≡ bits ++ replicate (8 * length bytes - length bits) false
     → bytes ≡ filled (length bytes) bits
 unfolding filled
 filled-by bytes bits h e = sym (bytes_bits bytes h) ∙ ap (bytes_of (length bytes)) e
@@ -112,24 +119,19 @@ module _ (bytes : List ℕ) (small : Bytes bytes) (at bits : ℕ) where
       (sym (rw z (append-nil (before ++ []) ∙ append-nil before ∙ ap bits_of_bytes (take_all at bytes (omega arith)))))
 
 -- with zeros behind the bits held the last byte is full
-module _ (bytes out : List ℕ) (small : Bytes out) (same : length out ≡ length bytes) (w r : Writer) where
-  all-out : r.held ≡ 0 → r.at ≡ length out → bits_of_bytes out ≡ bits_in out r
+module _ (w r : Writer) (small : Bytes r.bytes.now) where
+  all-out : r.held ≡ 0 → r.at ≡ length r.bytes.now → bits_of_bytes r.bytes.now ≡ bits_in r
   unfolding bits_behind bits_of
   all-out none e =
-      sym (append-nil (bits_of_bytes out)) ∙ ap₂ {C = List Bool} ◌++◌ (ap bits_of_bytes (sym (take_all r.at out (omega arith)))) (sym (rw none))
+      sym (append-nil (bits_of_bytes r.bytes.now))
+      ∙ ap₂ {C = List Bool} ◌++◌ (ap bits_of_bytes (sym (take_all r.at r.bytes.now (omega arith)))) (sym (rw none))
 
-  pub finished-zeros : w.at + 1 ≡ length bytes → w.held ≤ 8 → r.held ≡ 0 → r.at ≡ length out
-      → bits_in out r ≡ bits_in bytes w ++ bits_of (8 - w.held) 0 → out ≡ filled (length bytes) (bits_in bytes w)
-  finished-zeros e h none full put =
-      let room : 8 - w.held ≡ 8 * length out - length (bits_in bytes w) = omega (arith, length-in bytes w.at w.held w.bits (omega arith)) in
-      filled-by out (bits_in bytes w) small
-      (all-out none full ∙ put
-      ∙ ap (λ (l : List Bool). bits_in bytes w ++ l) (bits-zero (8 - w.held) ∙ ap (λ (n : ℕ). replicate n false) room))
-      ∙ ap (λ (n : ℕ). filled n (bits_in bytes w)) same
-
--- ---- a list of fields
--- one field more
-pub one_more : (n : ℕ) (f : ℕ → List Bool) (start mid : List Bool) → mid ≡ start ++ collect n f → (out : List Bool) → out ≡ mid ++ f n
-    → out ≡ start ++ collect (n + 1) f
-unfolding collect
-one_more n f start mid e out k = k ∙ ap (λ (l : List Bool). l ++ f n) e ∙ append_assoc start (collect n f) (f n) ∙ rw add-one
+  pub finished-zeros : Wrote w r (bits_of (8 - w.held) 0) → w.at + 1 ≡ length w.bytes.now → w.held ≤ 8
+      → r.held ≡ 0 → r.at ≡ length r.bytes.now → r.bytes.now ≡ filled (length w.bytes.now) (bits_in w)
+  finished-zeros put e h none full =
+      let room : 8 - w.held ≡ 8 * length r.bytes.now - length (bits_in w) =
+      omega (arith, put.same_length, length-in w.bytes.now w.at w.held w.bits (omega arith)) in
+      filled-by r.bytes.now (bits_in w) small
+      (all-out none full ∙ put.written
+      ∙ ap (λ (l : List Bool). bits_in w ++ l) (bits-zero (8 - w.held) ∙ ap (λ (n : ℕ). replicate n false) room))
+      ∙ ap (λ (n : ℕ). filled n (bits_in w)) put.same_length

@@ -1,2 +1,3 @@
--- Bits flushed by bytes.
+-- Bits flushed by bytes, and lists of fields.
 mod Flushing
+pub mod Fields

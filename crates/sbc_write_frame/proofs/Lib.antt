@@ -1,2 +1,3 @@
 -- A frame as the code writes it.
 mod Headed
+pub mod Parts

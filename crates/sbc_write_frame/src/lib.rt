@@ -9,52 +9,42 @@ ghost use Rattle.sbc_write_frame.specs.Framing.{coding_bits, coding_bytes};
 use sbc_allocation::allocate;
 use sbc_frame::{BlockCount, CodedFrame, Quantization};
 use sbc_parameters::AcceptedSet;
-use sbc_write::{Writer, finish, put_row, put_values};
+use sbc_write::Writer;
 
 // The body of a frame, behind its header and checksum.
 fn write_body(accepted: AcceptedSet, body: &mut [u8], coding: &CodedFrame)
     requires { length body.old + 4 ≡ frame_length accepted.set }
-    ensures { let p = accepted.set in body.new ≡ filled (frame_length p - 4) (coding_bits p coding.now.flags coding.now.factors.left coding.now.factors.right coding.now.left coding.now.right) }
+    ensures { let p = accepted.set in let k = coding.now in
+        body.new ≡ filled (frame_length p - 4) (coding_bits p k.flags k.factors.rows k.samples) }
 {
     let set = accepted.set;
     let joins = set.join_count();
-    let subbands = set.subbands as usize;
-    let others = subbands * (set.channels() as usize - 1);
-    let factors = coding.factors;
-    let widths = allocate(set, [factors.left, factors.right]);
-    let left = Quantization {
-        widths: widths[0],
-        factors: factors.left,
-    };
-    let right = Quantization {
-        widths: widths[1],
-        factors: factors.right,
-    };
-    let start = Writer {
-        at: 0,
-        held: 0,
-        bits: 0,
-    };
-    let flagged = put_row(body, start, &coding.flags, 1, joins);
-    let half = put_row(body, flagged, &factors.left, 4, subbands);
-    let side = put_row(body, half, &factors.right, 4, others);
-    let blocks = BlockCount::of(accepted);
-    let end = put_values(
-        body,
-        side,
-        &coding.left,
-        &coding.right,
-        &left,
-        &right,
-        blocks,
-    );
-    finish(body, end);
+    let subbands = usize::from(set.subbands);
+    let others = subbands * (usize::from(set.channels()) - 1);
+    let factors = coding.factors.rows;
+    let widths = allocate(set, factors);
+    let quantizations = [
+        Quantization {
+            widths: widths[0],
+            factors: factors[0],
+        },
+        Quantization {
+            widths: widths[1],
+            factors: factors[1],
+        },
+    ];
+    let mut writer = Writer::new(body);
+    writer.put_row(&coding.flags[..joins], 1);
+    writer.put_row(&factors[0][..subbands], 4);
+    writer.put_row(&factors[1][..others], 4);
+    writer.put_values(&coding.samples, &quantizations, BlockCount::from(accepted));
+    writer.finish();
 }
 
 // A frame: header, checksum, body. The checksum does not look at its own byte.
 pub fn write_frame(accepted: AcceptedSet, frame: &mut [u8], coding: &CodedFrame)
     requires { length frame.old ≡ frame_length accepted.set }
-    ensures { frame.new ≡ coding_bytes accepted.set coding.now.flags coding.now.factors.left coding.now.factors.right coding.now.left coding.now.right }
+    ensures { let k = coding.now in frame.new ≡ coding_bytes accepted.set k.flags k.factors.rows k.samples }
 {
     let set = accepted.set;
     let header = set.header();

@@ -68,7 +68,8 @@ write_body-requires c =
     let copied = c.copy_from_slice in
     let short = three c.args.accepted.set copied.new.self _ copied.ensures.after c.header-header.ensures in
     let xs : List ℕ = headed c.copy_from_slice.new.self c.args.frame.now in
-    let long : length xs ≡ frame_length c.args.accepted.set = length-headed copied.new.self c.args.frame.now short (omega (arith, four c.args.accepted.set, c.requires)) ∙ c.requires in
+    let long : length xs ≡ frame_length c.args.accepted.set =
+    length-headed copied.new.self c.args.frame.now short (omega (arith, four c.args.accepted.set, c.requires)) ∙ c.requires in
     ap (λ (l : List ℕ). length l + 4) (tail-part 4 xs) ∙ omega (arith, length-drop 4 xs, long, four c.args.accepted.set)
 
 pub bounds-frame-3 : goal.bounds-frame-3
