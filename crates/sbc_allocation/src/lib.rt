@@ -29,12 +29,13 @@ fn used_subbands(parameters: SbcParameters) -> usize
 }
 
 // The needs of a channel's subbands, 32 higher.
-fn channel_needs(needs: Needs, scale_factors: [u8; 8]) -> [u32; 8]
-    ensures all { map lowered (take (min needs.parameters.subbands 8) result) ≡ channel_needs needs.parameters scale_factors }
-    ensures least { (i : ℕ) → i < min needs.parameters.subbands 8 → 16 ≤ get_or result i 0 }
+fn channel_needs(parameters: SbcParameters, scale_factors: [u8; 8]) -> [u32; 8]
+    ensures all { map lowered (take (min parameters.subbands 8) result) ≡ channel_needs parameters scale_factors }
+    ensures least { (i : ℕ) → i < min parameters.subbands 8 → 16 ≤ get_or result i 0 }
 {
     let mut raised = [0u32; 8];
-    let subbands = used_subbands(needs.parameters);
+    let needs = Needs::from(parameters);
+    let subbands = used_subbands(parameters);
     for i in 0..subbands {
         raised[i] = raised_need(needs, scale_factors[i], i);
     }
@@ -57,33 +58,32 @@ fn row_of(bits: [u8; 16], first: usize, step: usize) -> [u8; 8]
 }
 
 // The row of a channel that is a group by itself.
-fn allocate_channel(needs: Needs, scale_factors: [u8; 8]) -> [u8; 8]
-    ensures { result ≡ table_row (share (channel_needs needs.parameters scale_factors) needs.parameters.bitpool) }
+fn allocate_channel(parameters: SbcParameters, scale_factors: [u8; 8]) -> [u8; 8]
+    ensures { result ≡ table_row (share (channel_needs parameters scale_factors) parameters.bitpool) }
 {
-    let set = needs.parameters;
-    let subbands = used_subbands(set);
+    let subbands = used_subbands(parameters);
     // With no subbands, which no accepted set has, there is no level to search.
     if subbands == 0 {
         return [0u8; 8];
     }
-    let raised = channel_needs(needs, scale_factors);
-    let bits = share_bits(&raised[..subbands], u32::from(set.bitpool));
+    let raised = channel_needs(parameters, scale_factors);
+    let bits = share_bits(&raised[..subbands], u32::from(parameters.bitpool));
     row_of(bits, 0, 1)
 }
 
 // The rows of both channels, which are one group.
-fn allocate_channels(needs: Needs, scale_factors: [[u8; 8]; 2]) -> [[u8; 8]; 2]
-    ensures { result ≡ map table_row (rows_together needs.parameters.bitpool (channel_needs needs.parameters (get_or scale_factors 0 [])) (channel_needs needs.parameters (get_or scale_factors 1 []))) }
+fn allocate_channels(parameters: SbcParameters, scale_factors: [[u8; 8]; 2]) -> [[u8; 8]; 2]
+    ensures { result ≡ map table_row (rows_together parameters.bitpool (channel_needs parameters (get_or scale_factors 0 [])) (channel_needs parameters (get_or scale_factors 1 []))) }
 {
-    let set = needs.parameters;
-    let subbands = used_subbands(set);
+    let subbands = used_subbands(parameters);
     // As in `allocate_channel`.
     if subbands == 0 {
         return [[0u8; 8], [0u8; 8]];
     }
-    let [left, right] = scale_factors;
-    let raised = both_channels([channel_needs(needs, left), channel_needs(needs, right)]);
-    let bits = share_bits(&raised[..2 * subbands], u32::from(set.bitpool));
+    let left = channel_needs(parameters, scale_factors[0]);
+    let right = channel_needs(parameters, scale_factors[1]);
+    let raised = both_channels([left, right]);
+    let bits = share_bits(&raised[..2 * subbands], u32::from(parameters.bitpool));
     [row_of(bits, 0, 2), row_of(bits, 1, 2)]
 }
 
@@ -93,16 +93,15 @@ fn allocate_channels(needs: Needs, scale_factors: [[u8; 8]; 2]) -> [[u8; 8]; 2]
 pub fn allocate(parameters: SbcParameters, scale_factors: [[u8; 8]; 2]) -> [[u8; 8]; 2]
     ensures { result ≡ allocation_table parameters scale_factors }
 {
-    let needs = Needs::from(parameters);
     let [left, right] = scale_factors;
     match parameters.channel_mode {
-        SbcChannelMode::Mono => [allocate_channel(needs, left), [0u8; 8]],
+        SbcChannelMode::Mono => [allocate_channel(parameters, left), [0u8; 8]],
         SbcChannelMode::DualChannel => [
-            allocate_channel(needs, left),
-            allocate_channel(needs, right),
+            allocate_channel(parameters, left),
+            allocate_channel(parameters, right),
         ],
         SbcChannelMode::Stereo | SbcChannelMode::JointStereo => {
-            allocate_channels(needs, scale_factors)
+            allocate_channels(parameters, scale_factors)
         }
     }
 }

@@ -29,26 +29,19 @@ fn loudness_need(offset: i32, scale_factor: u8) -> i32
     halve(i32::from(scale_factor) - offset)
 }
 
-// The loudness offsets of the set's rate.
-#[tactic(auto, unfolding(sbc_tables::specs::Tables::loudness_offsets))]
-fn offsets_of(parameters: SbcParameters) -> &'static [i32]
-    ensures { result.now ≡ get_or (loudness_offsets parameters.subbands) (frequency_index parameters) [] }
+// The loudness offset of a subband in the table of a bank, and 0 for one past the table.
+fn offset_in<B: Bank>(rate: usize, subband: usize) -> i32
+    ensures { result ≡ get_or (get_or (loudness_offsets B.SUBBANDS) rate []) subband (pos 0) }
 {
-    let rate = parameters.frequency_index();
-    // Kept: one branch picks the type, since the number of subbands is known only as the program runs.
-    if parameters.subbands == 4 {
-        Four::loudness_offsets(rate)
-    } else {
-        Eight::loudness_offsets(rate)
-    }
+    B::loudness_offsets(rate).get(subband).copied().unwrap_or(0)
 }
 
-// A set of parameters with the loudness offsets of its rate, which are found once for all subbands.
+// A set of parameters with the index of its rate, which is found once for all subbands.
 #[derive(Clone, Copy)]
 pub struct Needs {
     pub parameters: SbcParameters,
-    pub offsets: &'static [i32],
-    pub ghost of_rate: { offsets.now ≡ get_or (loudness_offsets parameters.subbands) (frequency_index parameters) [] },
+    pub rate: usize,
+    pub ghost is_index: { rate ≡ frequency_index parameters },
 }
 
 impl From<SbcParameters> for Needs {
@@ -57,18 +50,23 @@ impl From<SbcParameters> for Needs {
     fn from(parameters: SbcParameters) -> Needs {
         Needs {
             parameters,
-            offsets: offsets_of(parameters),
+            rate: parameters.frequency_index(),
         }
     }
 }
 
 impl Needs {
     // The loudness offset of a subband, and 0 for one past the table.
-    #[tactic(auto, unfolding(crate::specs::Need::loudness_offset))]
+    #[tactic(auto, unfolding(crate::specs::Need::loudness_offset, sbc_tables::specs::Tables::loudness_offsets))]
     fn offset(self, subband: usize) -> i32
         ensures { result ≡ loudness_offset self.parameters subband }
     {
-        self.offsets.get(subband).copied().unwrap_or(0)
+        // Kept: one branch picks the type, since the number of subbands is known only as the program runs.
+        if self.parameters.subbands == 4 {
+            offset_in::<Four>(self.rate, subband)
+        } else {
+            offset_in::<Eight>(self.rate, subband)
+        }
     }
 
     // The need of a subband with a scale factor.

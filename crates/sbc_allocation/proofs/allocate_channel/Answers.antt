@@ -49,7 +49,7 @@ module _
 pub returns-then-subbands-eq0 : goal.returns-then-subbands-eq0
 unfolding table_row
 returns-then-subbands-eq0 c =
-    let p = c.args.needs.parameters in
+    let p = c.args.parameters in
     rw (needs-none p c.args.scale_factors (omega (arith, c.used_subbands-subbands.ensures)), share-none p.bitpool) refl
 
 pub share_bits-bits-requires : goal.share_bits-bits-requires
@@ -57,7 +57,7 @@ share_bits-bits-requires c =
     let needs = c.channel_needs-raised in
     let used = c.used_subbands-subbands in
     let long : length needs.result ≡ 8 = search rules in
-    let part = part_long c.args.needs.parameters c.args.scale_factors needs.result used.result used.ensures long needs.ensures.all in (
+    let part = part_long c.args.parameters c.args.scale_factors needs.result used.result used.ensures long needs.ensures.all in (
       omega (arith, part),
       omega (arith, part),
       omega arith,
@@ -66,7 +66,7 @@ share_bits-bits-requires c =
 
 pub returns : goal.returns
 returns c =
-    let p = c.args.needs.parameters in
+    let p = c.args.parameters in
     let needs_long : length c.channel_needs-raised.result ≡ 8 = search rules in
     let bits_long : length c.share_bits-bits.result ≡ 16 = search rules in
     c.row_of.ensures

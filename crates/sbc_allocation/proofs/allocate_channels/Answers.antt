@@ -86,16 +86,16 @@ module _ {p : SbcParameters} {used : ℕ} {fl fr left right : List ℕ} (wl : Ne
 pub returns-then-subbands-eq0 : goal.returns-then-subbands-eq0
 unfolding rows_together table_row left_first channel_row
 returns-then-subbands-eq0 c =
-    let p = c.args.needs.parameters in
+    let p = c.args.parameters in
     rw (needs-none p (get_or c.args.scale_factors 0 []) (omega (arith, c.used_subbands-subbands.ensures)), share-none p.bitpool) refl
 
 pub share_bits-bits-requires : goal.share_bits-bits-requires
 share_bits-bits-requires c =
     let used = c.used_subbands-subbands in
-    let left_long : length c.channel_needs.result ≡ 8 = search rules in
-    let right_long : length c.channel_needs-2.result ≡ 8 = search rules in
-    let wl = needs_of c.args.needs.parameters used.result _ _ used.ensures left_long c.channel_needs.ensures.all c.channel_needs.ensures.least in
-    let wr = needs_of c.args.needs.parameters used.result _ _ used.ensures right_long c.channel_needs-2.ensures.all c.channel_needs-2.ensures.least in
+    let left_long : length c.channel_needs-left.result ≡ 8 = search rules in
+    let right_long : length c.channel_needs-right.result ≡ 8 = search rules in
+    let wl = needs_of c.args.parameters used.result _ _ used.ensures left_long c.channel_needs-left.ensures.all c.channel_needs-left.ensures.least in
+    let wr = needs_of c.args.parameters used.result _ _ used.ensures right_long c.channel_needs-right.ensures.all c.channel_needs-right.ensures.least in
     let len = part_long wl wr in
     rw c.both_channels-raised.ensures (omega (arith, len), omega (arith, len, wl.eight), omega arith, part_at_least wl wr)
 
@@ -103,12 +103,12 @@ pub returns : goal.returns
 unfolding rows_together
 returns c =
     let used = c.used_subbands-subbands in
-    let left_long : length c.channel_needs.result ≡ 8 = search rules in
-    let right_long : length c.channel_needs-2.result ≡ 8 = search rules in
+    let left_long : length c.channel_needs-left.result ≡ 8 = search rules in
+    let right_long : length c.channel_needs-right.result ≡ 8 = search rules in
     let bits_long : length c.share_bits-bits.result ≡ 16 = search rules in
-    let wl = needs_of c.args.needs.parameters used.result _ _ used.ensures left_long c.channel_needs.ensures.all c.channel_needs.ensures.least in
-    let wr = needs_of c.args.needs.parameters used.result _ _ used.ensures right_long c.channel_needs-2.ensures.all c.channel_needs-2.ensures.least in
-    let row = row_is wl wr c.share_bits-bits.result c.args.needs.parameters.bitpool
+    let wl = needs_of c.args.parameters used.result _ _ used.ensures left_long c.channel_needs-left.ensures.all c.channel_needs-left.ensures.least in
+    let wr = needs_of c.args.parameters used.result _ _ used.ensures right_long c.channel_needs-right.ensures.all c.channel_needs-right.ensures.least in
+    let row = row_is wl wr c.share_bits-bits.result c.args.parameters.bitpool
     (rw (c.both_channels-raised.ensures, c.from.ensures) at c.share_bits-bits.ensures) in
     ap₂ (λ (l r : List ℕ). l ∷ r ∷ [])
     (c.row_of.ensures ∙ left-entries c.share_bits-bits.result bits_long ∙ row 0)

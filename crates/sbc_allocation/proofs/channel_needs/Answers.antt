@@ -28,7 +28,7 @@ loop-i-preserved c =
     let in-needs : l.i < length l.raised = omega (arith, l.invariant.2, used.ensures) in
     let before : (j : ℕ) → j < l.i → P j = λ j h. omega (arith, get_or-set_other l.raised l.i j n 0 (omega arith), l.invariant.1 j h) in
     let here : P l.i = omega (arith, get_or-set_same l.raised l.i n 0 in-needs) in (
-      needs-step c.args.needs.parameters c.args.scale_factors l.raised l.i n in-needs c.raised_need.ensures.0 l.invariant.0,
+      needs-step c.args.parameters c.args.scale_factors l.raised l.i n in-needs (rw c.from-needs.ensures at c.raised_need.ensures.0) l.invariant.0,
       below_more P l.i before here,
       length-set l.raised l.i n ∙ l.invariant.2,
     )
@@ -39,7 +39,7 @@ returns c =
     let long : length c.args.scale_factors ≡ 8 = search rules in
     let used = c.used_subbands-subbands in
     let l = c.loop-i in
-    let p = c.args.needs.parameters in
+    let p = c.args.parameters in
     let at : l.i ≡ min p.subbands 8 = omega (arith, used.ensures) in
     let all : min p.subbands 8 ≡ min p.subbands (length c.args.scale_factors) = omega (arith, long) in
     record {

@@ -11,5 +11,5 @@ use Rattle.sbc_allocation.proofs.channel_needs.Given as goal
 
 abbrev pub invariant-loop-i : goal.invariant-loop-i
 invariant-loop-i l =
-    (map lowered (take l.i l.raised) ≡ build l.i (λ j. need l.needs.parameters (get_or l.scale_factors j 0) j))
+    (map lowered (take l.i l.raised) ≡ build l.i (λ j. need l.fn.parameters (get_or l.scale_factors j 0) j))
     × ((j : ℕ) → j < l.i → 16 ≤ get_or l.raised j 0) × (length l.raised ≡ 8)
