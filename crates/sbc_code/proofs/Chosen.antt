@@ -1,21 +1,20 @@
--- What is coded of a frame: the channels as they are, or sum and difference where a join flag is set. What the code chooses by its rows of flags
--- and scale factors is what `coded_at` says.
+-- What is coded of a frame: the channels as they are, or sum and difference where a join flag is set. What the code
+-- chooses by its rows of flags and scale factors is what `coded_at` says.
 -- Assumes nothing.
-use Prim.Native.Nat.{ℕ, zero, suc, ◌+◌, ◌*◌, ◌≤◌, ◌<◌, max}
-use mathlib.Core.Path.{◌≡◌, refl, sym, ap, ap₂, subst, ◌∙◌, fun_ext}
-use mathlib.Core.Logic.{◌≢◌}
+use Prim.Native.Nat.{ℕ, zero, suc, ◌≤◌, ◌<◌, max}
+use mathlib.Core.Path.{◌≡◌, refl, sym, ap, ap₂, ◌∙◌, fun_ext}
 use mathlib.Core.Bool.{Bool, true, false}
 use mathlib.Core.List.{List, [], ◌∷◌}
 use native.Mathlib.Omega.{arith}
-use lib.Dec.{lit≤, eqb, ltb}
-use borrow.Author.Tests.{ltb-true, ltb-false, eqb-true, eqb-false, ne_eqb}
+use lib.Dec.{lit≤, eqb}
+use borrow.Author.Tests.{eqb-true, eqb-false}
 use lib.IntN.{ℤ, pos, nat_abs}
-use lib.ListN.{get_or, replicate, get_or-replicate, get_or-eq_default}
+use lib.ListN.{get_or, get_or-replicate}
 use Rattle.std.specs.Prelude.{if◌then◌else◌}
-use Rattle.laws.specs.Lists.{greatest}
+use Rattle.laws.specs.Lists.{build, collect, greatest}
 use Rattle.laws.specs.Bits.{digit}
 use Rattle.laws.proofs.Cases.{by-test}
-use Rattle.laws.proofs.Lists.{length-build, get_or-build, build-all}
+use Rattle.laws.proofs.Lists.{get_or-build, build-ext, build-all}
 use Rattle.sbc_parameters.specs.declared.SbcParameters.{SbcParameters}
 use Rattle.sbc_modes.specs.Modes.{is_joint}
 use Rattle.sbc_parameters.specs.Parameters.{channels, accepted}
@@ -23,14 +22,85 @@ use Rattle.sbc_parameters.specs.Sizes.{join_count}
 use Rattle.sbc_parameters.proofs.Accepted.{channels-range, ranges}
 use Rattle.sbc_quantizer.specs.Quantizing.{scale_factor}
 use Rattle.sbc_quantizer.proofs.Factors.{scale-factor-le}
+use Rattle.sbc_frame.specs.declared.blocks.Blocks.{Blocks}
 use Rattle.sbc_frame.specs.Encoding.{sample_at, factor_of, joined_at, plain_cost, joined_cost, is_joined, coded_at}
-use Rattle.sbc_frame.specs.Arrays.{sample_in, entry}
-use Rattle.sbc_factors.specs.Factors.{factors_in}
-use Rattle.sbc_join.specs.Joining.{half_sums, half_differences, join_row, picked_row, picked_samples}
-use Rattle.sbc_frame.proofs.Flagged.{flagged-in}
-use Rattle.sbc_code.specs.Coding.{Coded, plain_coding, join_flags, joint_coding, coding_of, CodingRows, CodingIn, ChannelsIn}
+use Rattle.sbc_frame.specs.Arrays.{entry, rows_of, with_flagged}
 use Rattle.sbc_frame.proofs.Sizes.{joins-two}
 use Rattle.sbc_frame.proofs.Coding.{none-joined, coded-alone}
+use Rattle.sbc_frame.proofs.Flagged.{flagged_in}
+use Rattle.sbc_factors.specs.Factors.{factors_in}
+use Rattle.sbc_join.specs.Joining.{joined_samples, join_row, picked_row}
+use Rattle.sbc_code.specs.Coding.{factor_rows, picked_rows, picked_samples, plain_coding, join_flags, joint_coding, coding_of}
+use Rattle.sbc_code.specs.Coding.{CodingIn, ChannelsIn}
+
+-- ---- rows of eight: flags of one bit and scale factors of four
+pub factors_low : (n : ℕ) (xs : List (List ℤ)) (s : ℕ) → entry (factors_in n xs) s ≤ 15
+unfolding factors_in
+factors_low n xs s = build-all (λ (k : ℕ). k ≤ 15) 8 _ s 0 (λ j. scale-factor-le _) (lit≤ tt)
+
+-- so is one that is picked
+pub picked_low : (flags : List ℕ) (plain joined : List (List ℕ)) {row : List ℕ} (c : ℕ) → ((c s : ℕ) → entry (get_or plain c []) s ≤ 15)
+    → ((c s : ℕ) → entry (get_or joined c []) s ≤ 15) → row ≡ picked_row 0 flags (get_or plain c []) (get_or joined c [])
+    → (s : ℕ) → entry row s ≤ 15
+unfolding picked_row
+picked_low flags plain joined c hp hj e s =
+    rw e
+    (build-all (λ (k : ℕ). k ≤ 15) 8 _ s 0
+    (λ j. by-test (λ (k : ℕ). k ≤ 15) (eqb (entry flags j) 1) _ _ (λ _. hj c j) (λ _. hp c j))
+    (lit≤ tt))
+
+-- so are those of both channels
+pub both_low : (a b : List ℕ) → ((s : ℕ) → entry a s ≤ 15) → ((s : ℕ) → entry b s ≤ 15)
+    → (c s : ℕ) → entry (get_or (a ∷ b ∷ []) c []) s ≤ 15
+both_low a b ha hb zero s = ha s
+both_low a b ha hb (suc zero) s = hb s
+both_low a b ha hb (suc (suc c)) s = lit≤ tt
+
+-- a flag is one bit
+digit-small : (b : Bool) → digit b ≤ 1
+unfolding digit
+digit-small true = lit≤ tt
+digit-small false = lit≤ tt
+
+pub flags_low : (S : ℕ) (plain joined : List (List ℕ)) (s : ℕ) → entry (join_row S plain joined) s ≤ 1
+unfolding join_row
+flags_low S plain joined s = build-all (λ (k : ℕ). k ≤ 1) 8 _ s 0 (λ j. digit-small _) (lit≤ tt)
+
+-- ---- the rows of both channels, one by one
+pub factors_are : (n : ℕ) (samples : ℕ → List (List ℤ)) → factor_rows n samples ≡ factors_in n (samples 0) ∷ factors_in n (samples 1) ∷ []
+unfolding factor_rows build collect
+factors_are n samples = refl
+
+pub picked_are : (flags : List ℕ) (plain joined : List (List ℕ)) → picked_rows flags plain joined
+    ≡ picked_row 0 flags (get_or plain 0 []) (get_or joined 0 []) ∷ picked_row 0 flags (get_or plain 1 []) (get_or joined 1 []) ∷ []
+unfolding picked_rows build collect
+picked_are flags plain joined = refl
+
+-- ---- what the code has of a frame whose subbands may be joined
+-- the scale factors of both channels, by equal samples of each
+both-ext : (n : ℕ) (xs ys : ℕ → List (List ℤ)) → ((c : ℕ) → c < 2 → xs c ≡ ys c) → factor_rows n xs ≡ factor_rows n ys
+unfolding factor_rows
+both-ext n xs ys h = build-ext 2 _ _ (λ c k. ap (factors_in n) (h c k))
+
+-- each part by those before it
+module _ (p : SbcParameters) (xs js : List Blocks) (same : (c : ℕ) → c < 2 → rows_of js c ≡ joined_samples (rows_of xs) c) where
+  pub joint_is : {n S : ℕ} {flags : List ℕ} {plain joined factors : List (List ℕ)} {left right : Blocks} → n ≡ p.blocks → S ≡ p.subbands
+      → plain ≡ factor_rows n (rows_of xs) → joined ≡ factor_rows n (rows_of js) → flags ≡ join_row S plain joined
+      → factors ≡ picked_rows flags plain joined
+      → left.rows ≡ with_flagged n flags (sample_at (rows_of js 0)) (rows_of xs 0)
+      → right.rows ≡ with_flagged n flags (sample_at (rows_of js 1)) (rows_of xs 1)
+      → record { flags = flags; factors = factors; samples = left ∷ right ∷ [] } ≡ joint_coding p xs
+  unfolding joint_coding picked_samples build collect
+  joint_is b d pl jo f fs l r =
+      let plain = pl ∙ (λ i. factor_rows (b i) (rows_of xs)) in
+      let joined = jo ∙ (λ i. factor_rows (b i) (rows_of js)) ∙ both-ext p.blocks (rows_of js) (joined_samples (rows_of xs)) same in
+      let e = f ∙ (λ i. join_row (d i) (plain i) (joined i)) in
+      let first = same 0 (omega arith) in
+      let second = same 1 (omega arith) in
+      let k = fs ∙ (λ i. picked_rows (e i) (plain i) (joined i)) in
+      let l' = l ∙ (λ i. with_flagged (b i) (e i) (sample_at (first i)) (rows_of xs 0)) in
+      let r' = r ∙ (λ i. with_flagged (b i) (e i) (sample_at (second i)) (rows_of xs 1)) in
+      λ i. record { flags = e i; factors = k i; samples = record { rows = l' i } ∷ record { rows = r' i } ∷ [] }
 
 -- ---- scale factors
 -- the greatest looks at the first n numbers only
@@ -40,74 +110,17 @@ greatest-ext zero f g h = refl
 greatest-ext (suc n) f g h = ap₂ max (greatest-ext n f g (λ i lt. h i (omega arith))) (h n (omega arith))
 
 -- an entry is the factor of the samples that the array holds
-row-factor : (p : SbcParameters) (xs : List ℤ) (f : ℕ → ℤ) (s : ℕ) → s < 8 → ((b : ℕ) → b < p.blocks → sample_in xs b s ≡ f b)
+row-factor : (p : SbcParameters) (xs : List (List ℤ)) (f : ℕ → ℤ) (s : ℕ) → s < 8 → ((b : ℕ) → b < p.blocks → sample_at xs b s ≡ f b)
     → entry (factors_in p.blocks xs) s ≡ factor_of p f
 unfolding factors_in factor_of
 row-factor p xs f s hs h = get_or-build 8 _ s 0 hs ∙ ap scale_factor (greatest-ext p.blocks _ _ (λ b hb. ap nat_abs (h b hb)))
 
--- and at most 15
-factors-small : (n : ℕ) (xs : List ℤ) (s : ℕ) → entry (factors_in n xs) s ≤ 15
-unfolding factors_in
-factors-small n xs s = build-all (λ (k : ℕ). k ≤ 15) 8 _ s 0 (λ j. scale-factor-le _) (lit≤ tt)
-
-pub factors-low : (n : ℕ) (xs : List ℤ) {row : List ℕ} → row ≡ factors_in n xs → (s : ℕ) → entry row s ≤ 15
-factors-low n xs e s = subst (λ (row : List ℕ). entry row s ≤ 15) (sym e) (factors-small n xs s)
-
--- so is one that is picked
-picked-small : (flags plain joined : List ℕ) → ((s : ℕ) → entry plain s ≤ 15) → ((s : ℕ) → entry joined s ≤ 15) → (s : ℕ)
-    → entry (picked_row flags plain joined) s ≤ 15
-unfolding picked_row
-picked-small flags plain joined hp hj s =
-    build-all (λ (k : ℕ). k ≤ 15) 8 _ s 0
-    (λ j. by-test (λ (k : ℕ). k ≤ 15) (eqb (entry flags j) 1) (entry joined j) (entry plain j) (λ _. hj j) (λ _. hp j))
-    (lit≤ tt)
-
--- a flag is one bit
-digit-small : (b : Bool) → digit b ≤ 1
-unfolding digit
-digit-small true = lit≤ tt
-digit-small false = lit≤ tt
-
--- rows of eight: flags of one bit and scale factors of four
-pub plain_rows : (n : ℕ) (l r : List ℤ) → CodingRows (replicate 8 0) (factors_in n l) (factors_in n r)
-unfolding factors_in
-plain_rows n l r = (
-  length-build 8 _,
-  length-build 8 _,
-  λ s. go s (ltb s 8) refl,
-  factors-small n l,
-  factors-small n r,
-)
-  where
-    zeros : List ℕ
-    zeros = replicate 8 0
-
-    go : (s : ℕ) (t : Bool) → ltb s 8 ≡ t → get_or zeros s 0 ≤ 1
-    go s true e = rw (get_or-replicate {A = ℕ} 8 s 0 0 (ltb-true s 8 e)) (lit≤ tt)
-    go s false e = rw (get_or-eq_default zeros 0 (ltb-false s 8 e)) (lit≤ tt)
-
--- so in a row of flags, and in a row that is picked
-pub flags-low : (S : ℕ) (a b c d : List ℕ) {row : List ℕ} → row ≡ join_row S a b c d → (s : ℕ) → entry row s ≤ 1
-unfolding join_row
-flags-low S a b c d e s =
-    subst (λ (row : List ℕ). entry row s ≤ 1) (sym e) (build-all (λ (k : ℕ). k ≤ 1) 8 _ s 0 (λ j. digit-small _) (lit≤ tt))
-
-pub picked-low : (flags plain joined : List ℕ) {row : List ℕ} → row ≡ picked_row flags plain joined → ((s : ℕ) → entry plain s ≤ 15)
-    → ((s : ℕ) → entry joined s ≤ 15) → (s : ℕ) → entry row s ≤ 15
-picked-low flags plain joined e hp hj s = subst (λ (row : List ℕ). entry row s ≤ 15) (sym e) (picked-small flags plain joined hp hj s)
-
-joint-rows : (n S : ℕ) (l r a b : List ℤ)
-    → let flags = join_row S (factors_in n l) (factors_in n r) (factors_in n a) (factors_in n b) in
-    CodingRows flags (picked_row flags (factors_in n l) (factors_in n a)) (picked_row flags (factors_in n r) (factors_in n b))
-unfolding join_row picked_row
-joint-rows n S l r a b =
-    let flags = join_row S (factors_in n l) (factors_in n r) (factors_in n a) (factors_in n b) in (
-      length-build 8 _,
-      length-build 8 _,
-      λ s. build-all (λ (k : ℕ). k ≤ 1) 8 _ s 0 (λ j. digit-small _) (lit≤ tt),
-      picked-small flags (factors_in n l) (factors_in n a) (factors-small n l) (factors-small n a),
-      picked-small flags (factors_in n r) (factors_in n b) (factors-small n r) (factors-small n b),
-    )
+-- so by channel
+channel-factor : (p : SbcParameters) (xs : ℕ → List (List ℤ)) (f : ℕ → ℤ) (c s : ℕ) → c < 2 → s < 8
+    → ((b : ℕ) → b < p.blocks → sample_at (xs c) b s ≡ f b) → entry (get_or (factor_rows p.blocks xs) c []) s ≡ factor_of p f
+unfolding factor_rows
+channel-factor p xs f c s hc hs h =
+    ap (λ (row : List ℕ). entry row s) (get_or-build 2 (λ c. factors_in p.blocks (xs c)) c [] hc) ∙ row-factor p (xs c) f s hs h
 
 -- ---- join flags
 -- a digit is 1 for true
@@ -134,20 +147,17 @@ joint p = go (is_joint p.channel_mode)
     go true h = refl
     go false h = absurd (omega arith)
 
-module _ (p : SbcParameters) (a : accepted p ≡ true) (samples : ℕ → List (List ℤ)) (l r : List ℤ) (given : ChannelsIn p samples l r) where
-  -- a channel's scale factors as it is
-  abbrev plain_row : ℕ → List ℕ
-  plain_row c = get_or (factors_in p.blocks l ∷ factors_in p.blocks r ∷ []) c []
-
-  own-factor : (c s : ℕ) → c < channels p → s < 8 → entry (plain_row c) s ≡ factor_of p (λ b. sample_at (samples c) b s)
-  own-factor zero s hc hs = row-factor p l _ s hs (λ b hb. given 0 hc b s hb hs)
-  own-factor (suc zero) s hc hs = row-factor p r _ s hs (λ b hb. given 1 hc b s hb hs)
-  own-factor (suc (suc c)) s hc hs = absurd (omega (arith, (channels-range p).1))
+module _ (p : SbcParameters) (a : accepted p ≡ true) (samples : ℕ → List (List ℤ)) (xs : List Blocks)
+    (given : ChannelsIn p samples xs) where
+  own-factor : (c s : ℕ) → c < channels p → s < 8
+      → entry (get_or (factor_rows p.blocks (rows_of xs)) c []) s ≡ factor_of p (λ b. sample_at (samples c) b s)
+  own-factor c s hc hs =
+      channel-factor p (rows_of xs) _ c s (omega (arith, (channels-range p).1)) hs (λ b hb. given c hc b s hb hs)
 
   -- ---- no subband is joined
   -- the channels as they are
-  plain-coding : join_count p ≡ 0 → CodingIn p samples (replicate 8 0) (factors_in p.blocks l) (factors_in p.blocks r) l r
-  unfolding digit
+  plain-coding : join_count p ≡ 0 → CodingIn p samples (plain_coding p xs)
+  unfolding plain_coding digit
   plain-coding none =
       let plain = unjoint p a none in
       record {
@@ -158,39 +168,30 @@ module _ (p : SbcParameters) (a : accepted p ≡ true) (samples : ℕ → List (
 
   -- ---- subbands may be joined
   module _ (some : 0 < join_count p) where
-    -- what the code computes: sums and differences, their scale factors, and the flags
-    abbrev sums : List ℤ
-    sums = half_sums l r
-
-    abbrev differences : List ℤ
-    differences = half_differences l r
-
-    abbrev joined_row : ℕ → List ℕ
-    joined_row c = get_or (factors_in p.blocks sums ∷ factors_in p.blocks differences ∷ []) c []
+    -- what the code computes: joined samples, scale factors of both, and the flags
+    abbrev joined : ℕ → List (List ℤ)
+    joined = joined_samples (rows_of xs)
 
     abbrev flags : List ℕ
-    flags = join_flags p l r
+    flags = join_flags p (rows_of xs)
 
     -- there are two channels
     two : channels p ≡ 2
     two = joins-two p 0 some
 
     -- sums and differences are the joined samples
-    joined-sample : (b c s : ℕ) → b < p.blocks → c < channels p → s < 8 → sample_in (get_or (sums ∷ differences ∷ []) c []) b s ≡ joined_at samples b c s
-    unfolding joined_at half_sums half_differences
-    joined-sample b zero s hb hc hs =
-        get_or-build 128 _ (8 * b + s) (pos 0) (omega (arith, (ranges p a).blocks-high))
-        ∙ rw (given 0 hc b s hb hs, given 1 (omega (arith, two)) b s hb hs)
-    joined-sample b (suc zero) s hb hc hs =
-        get_or-build 128 _ (8 * b + s) (pos 0) (omega (arith, (ranges p a).blocks-high))
-        ∙ rw (given 0 (omega arith) b s hb hs, given 1 hc b s hb hs)
-    joined-sample b (suc (suc c)) s hb hc hs = absurd (omega (arith, two))
+    joined-sample : (b c s : ℕ) → b < p.blocks → s < 8 → sample_at (joined c) b s ≡ joined_at samples b c s
+    unfolding joined_samples joined_at
+    joined-sample b c s hb hs =
+        ap (λ (row : List ℤ). get_or row s (pos 0))
+        (get_or-build 16 (λ b. build 8 (joined_at (rows_of xs) b c)) b [] (omega (arith, (ranges p a).blocks-high)))
+        ∙ get_or-build 8 (joined_at (rows_of xs) b c) s (pos 0) hs
+        ∙ rw (given 0 (omega (arith, two)) b s hb hs, given 1 (omega (arith, two)) b s hb hs)
 
     -- and their scale factors those of the joined samples
-    joined-factor : (c s : ℕ) → c < channels p → s < 8 → entry (joined_row c) s ≡ factor_of p (λ b. joined_at samples b c s)
-    joined-factor zero s hc hs = row-factor p sums _ s hs (λ b hb. joined-sample b 0 s hb hc hs)
-    joined-factor (suc zero) s hc hs = row-factor p differences _ s hs (λ b hb. joined-sample b 1 s hb hc hs)
-    joined-factor (suc (suc c)) s hc hs = absurd (omega (arith, two))
+    joined-factor : (c s : ℕ) → c < 2 → s < 8
+        → entry (get_or (factor_rows p.blocks joined) c []) s ≡ factor_of p (λ b. joined_at samples b c s)
+    joined-factor c s hc hs = channel-factor p joined _ c s hc hs (λ b hb. joined-sample b c s hb hs)
 
     -- a flag is set where a subband is joined
     flag_at : (s : ℕ) → s < 8 → entry flags s ≡ digit (is_joined p samples s)
@@ -201,8 +202,8 @@ module _ (p : SbcParameters) (a : accepted p ≡ true) (samples : ℕ → List (
           joint p some,
           own-factor 0 s (omega (arith, two)) hs,
           own-factor 1 s (omega (arith, two)) hs,
-          joined-factor 0 s (omega (arith, two)) hs,
-          joined-factor 1 s (omega (arith, two)) hs,
+          joined-factor 0 s (omega arith) hs,
+          joined-factor 1 s (omega arith) hs,
         )
 
     -- and tells it
@@ -211,98 +212,38 @@ module _ (p : SbcParameters) (a : accepted p ≡ true) (samples : ℕ → List (
 
     -- the scale factors that are picked by the flags are those of what is coded
     coded-factor : (c s : ℕ) → c < channels p → s < 8
-        → entry (picked_row flags (plain_row c) (joined_row c)) s ≡ factor_of p (λ b. coded_at p samples b c s)
-    unfolding picked_row coded_at
-    coded-factor c s hc hs = get_or-build 8 _ s 0 hs ∙ rw (flag-tells s hs) (go (is_joined p samples s))
+        → entry (get_or (picked_rows flags (factor_rows p.blocks (rows_of xs)) (factor_rows p.blocks joined)) c []) s
+        ≡ factor_of p (λ b. coded_at p samples b c s)
+    unfolding picked_rows picked_row coded_at
+    coded-factor c s hc hs =
+        ap (λ (row : List ℕ). entry row s) (get_or-build 2 _ c [] (omega (arith, two))) ∙ get_or-build 8 _ s 0 hs
+        ∙ rw (flag-tells s hs) (go (is_joined p samples s))
       where
-        go : (t : Bool) → (if t then entry (joined_row c) s else entry (plain_row c) s)
+        go : (t : Bool)
+            → (if t then entry (get_or (factor_rows p.blocks joined) c []) s else entry (get_or (factor_rows p.blocks (rows_of xs)) c []) s)
             ≡ factor_of p (λ b. if t then joined_at samples b c s else sample_at (samples c) b s)
-        go true = joined-factor c s hc hs
+        go true = joined-factor c s (omega (arith, two)) hs
         go false = own-factor c s hc hs
 
     -- so are samples that are picked by them
     coded-sample : (b c s : ℕ) → b < p.blocks → c < channels p → s < 8
-        → (if eqb (entry flags s) 1 then sample_in (get_or (sums ∷ differences ∷ []) c []) b s else sample_in (get_or (l ∷ r ∷ []) c []) b s)
-        ≡ coded_at p samples b c s
-    unfolding coded_at
-    coded-sample b c s hb hc hs = rw (flag-tells s hs, joined-sample b c s hb hc hs, given c hc b s hb hs)
+        → sample_at (rows_of (picked_samples p.blocks flags (rows_of xs) joined) c) b s ≡ coded_at p samples b c s
+    unfolding picked_samples coded_at
+    coded-sample b c s hb hc hs =
+        ap (λ (k : Blocks). sample_at k.rows b s) (get_or-build 2 _ c _ (omega (arith, two)))
+        ∙ flagged_in p.blocks flags (sample_at (joined c)) (rows_of xs c) b s hb (ranges p a).blocks-high hs
+        ∙ rw (flag-tells s hs, joined-sample b c s hb hs, given c hc b s hb hs)
 
     -- what the flags choose
-    joint-coding : let k = joint_coding p l r in CodingIn p samples k.flags k.left_factors k.right_factors k.left k.right
+    joint-coding : CodingIn p samples (joint_coding p xs)
     unfolding joint_coding
-    joint-coding =
-        record {
-          flag_is = flag_at;
-          factor_is = factor;
-          sample_is = sample;
-        }
-      where
-        few : p.blocks ≤ 16
-        few = (ranges p a).blocks-high
+    joint-coding = record { flag_is = flag_at; factor_is = coded-factor; sample_is = coded-sample }
 
-        factor : (c s : ℕ) → c < channels p → s < 8
-            → entry (get_or (picked_row flags (plain_row 0) (joined_row 0) ∷ picked_row flags (plain_row 1) (joined_row 1) ∷ []) c []) s
-            ≡ factor_of p (λ b. coded_at p samples b c s)
-        factor zero s hc hs = coded-factor 0 s hc hs
-        factor (suc zero) s hc hs = coded-factor 1 s hc hs
-        factor (suc (suc c)) s hc hs = absurd (omega (arith, two))
-
-        sample : (b c s : ℕ) → b < p.blocks → c < channels p → s < 8
-            → sample_in (get_or (picked_samples p.blocks flags l sums ∷ picked_samples p.blocks flags r differences ∷ []) c []) b s
-            ≡ coded_at p samples b c s
-        sample b zero s hb hc hs = flagged-in p.blocks flags (sample_in sums) l b s hb few hs ∙ coded-sample b 0 s hb hc hs
-        sample b (suc zero) s hb hc hs = flagged-in p.blocks flags (sample_in differences) r b s hb few hs ∙ coded-sample b 1 s hb hc hs
-        sample b (suc (suc c)) s hb hc hs = absurd (omega (arith, two))
-
--- ---- what is coded of a frame
--- rows of eight: flags of one bit and scale factors of four
-pub coding-rows : (p : SbcParameters) (l r : List ℤ)
-    → let k = coding_of p l r in CodingRows k.flags k.left_factors k.right_factors
-unfolding coding_of plain_coding joint_coding
-coding-rows p l r =
-    by-test (λ (k : Coded). CodingRows k.flags k.left_factors k.right_factors) (eqb (join_count p) 0) (plain_coding p l r) (joint_coding p l r)
-    (λ _. plain_rows p.blocks l r) (λ _. joint-rows p.blocks p.subbands l r (half_sums l r) (half_differences l r))
-
--- and what `coded_at` says
-pub coding-in : (p : SbcParameters) → accepted p ≡ true → (samples : ℕ → List (List ℤ)) (l r : List ℤ) → ChannelsIn p samples l r
-    → let k = coding_of p l r in CodingIn p samples k.flags k.left_factors k.right_factors k.left k.right
-unfolding coding_of plain_coding
-coding-in p a samples l r given =
-    by-test (λ (k : Coded). CodingIn p samples k.flags k.left_factors k.right_factors k.left k.right) (eqb (join_count p) 0)
-    (plain_coding p l r) (joint_coding p l r) (λ e. plain-coding p a samples l r given (eqb-true (join_count p) 0 e))
-    (λ e. joint-coding p a samples l r given (let ne = eqb-false (join_count p) 0 e in omega arith))
-
--- ---- the code's choice
-pub coding-plain : (p : SbcParameters) (l r : List ℤ) → join_count p ≡ 0 → plain_coding p l r ≡ coding_of p l r
+-- ---- what is coded of a frame is what `coded_at` says
+pub coding-in : (p : SbcParameters) → accepted p ≡ true → (samples : ℕ → List (List ℤ)) (xs : List Blocks) → ChannelsIn p samples xs
+    → CodingIn p samples (coding_of p xs)
 unfolding coding_of
-coding-plain p l r e = sym (rw e)
-
-pub coding-joint : (p : SbcParameters) (l r : List ℤ) → join_count p ≢ 0 → joint_coding p l r ≡ coding_of p l r
-unfolding coding_of
-coding-joint p l r ne = sym (rw (ne_eqb (join_count p) 0 ne))
-
--- a coding from its parts
-abbrev coding_from : List ℕ → List ℕ → List ℕ → List ℤ → List ℤ → Coded
-coding_from flags left-factors right-factors left right =
-    record { flags = flags; left_factors = left-factors; right_factors = right-factors; left = left; right = right }
-
--- a frame whose subbands may be joined, as the code has it: each row and array by those before it
-module _ (p : SbcParameters) (l r : List ℤ) {n : ℕ} {sums differences left right : List ℤ}
-    {plain-left plain-right joined-left joined-right flags left-factors right-factors : List ℕ} where
-  pub joint-is : n ≡ p.blocks → sums ≡ half_sums l r → differences ≡ half_differences l r
-      → plain-left ≡ factors_in n l → plain-right ≡ factors_in n r
-      → joined-left ≡ factors_in n sums → joined-right ≡ factors_in n differences
-      → flags ≡ join_row p.subbands plain-left plain-right joined-left joined-right
-      → left-factors ≡ picked_row flags plain-left joined-left → right-factors ≡ picked_row flags plain-right joined-right
-      → left ≡ picked_samples n flags l sums → right ≡ picked_samples n flags r differences
-      → coding_from flags left-factors right-factors left right ≡ joint_coding p l r
-  unfolding joint_coding
-  joint-is b s d pl pr jl jr f lf rf ls rs =
-      let ol : plain-left ≡ factors_in p.blocks l = pl ∙ (λ i. factors_in (b i) l) in
-      let or : plain-right ≡ factors_in p.blocks r = pr ∙ (λ i. factors_in (b i) r) in
-      let sl : joined-left ≡ factors_in p.blocks (half_sums l r) = jl ∙ (λ i. factors_in (b i) (s i)) in
-      let dr : joined-right ≡ factors_in p.blocks (half_differences l r) = jr ∙ (λ i. factors_in (b i) (d i)) in
-      let e : flags ≡ join_flags p l r = f ∙ (λ i. join_row p.subbands (ol i) (or i) (sl i) (dr i)) in
-      (λ i. coding_from flags (lf i) (rf i) (ls i) (rs i))
-      ∙ (λ i. coding_from (e i) (picked_row (e i) (ol i) (sl i)) (picked_row (e i) (or i) (dr i)) (picked_samples (b i) (e i) l (s i))
-      (picked_samples (b i) (e i) r (d i)))
+coding-in p a samples xs given =
+    by-test (CodingIn p samples) (eqb (join_count p) 0) (plain_coding p xs) (joint_coding p xs)
+    (λ e. plain-coding p a samples xs given (eqb-true (join_count p) 0 e))
+    (λ e. joint-coding p a samples xs given (let ne = eqb-false (join_count p) 0 e in omega arith))

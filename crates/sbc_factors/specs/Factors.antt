@@ -1,5 +1,5 @@
--- How the code takes the scale factors of a frame, for the contracts of its inner functions alone: rows of eight, from a channel's samples in 16 rows
--- of eight, a row for each block. No call of a user's cites this.
+-- How the code takes the scale factors of a frame, for the contracts of its inner functions alone: rows of eight, from
+-- a channel's samples in 16 rows of eight, a row for each block. No call of a user's cites this.
 -- From document 01, "Quantizing".
 use Rattle.std.specs.Prelude.{ℕ, max, List, get_or, ℤ, pos, nat_abs}
 use Rattle.laws.specs.Lists.{build, greatest}

@@ -1,5 +1,6 @@
--- Coding one frame: the encoder's fields fit a frame, and the decoder gives all samples of one. In dual channel a channel's fields come from
--- that channel's samples and history only, and its samples and next history from its own fields and history only.
+-- Coding one frame: the encoder's fields fit a frame, and the decoder gives all samples of one. In dual channel a
+-- channel's fields come from that channel's samples and history only, and its samples and next history from its own
+-- fields and history only.
 -- Assumes nothing.
 use Prim.Native.Nat.{ℕ, ◌+◌, ◌*◌, ◌/◌, ◌%◌, ◌^◌, ◌≤◌, ◌<◌}
 use mathlib.Core.Path.{◌≡◌, refl, sym, ap, ap₂, ◌∙◌, fun_ext}
@@ -162,7 +163,8 @@ module _ (p : SbcParameters) (dual : p.channel_mode ≡ DualChannel) where
           → get_or (get_or (coded_values p x fs) b []) c [] ≡ get_or (get_or (coded_values p y gs) b []) c []
       values_same fs gs q b = go (ltb b p.blocks) refl
         where
-          go : (t : Bool) → ltb b p.blocks ≡ t → get_or (get_or (coded_values p x fs) b []) c [] ≡ get_or (get_or (coded_values p y gs) b []) c []
+          go : (t : Bool) → ltb b p.blocks ≡ t
+              → get_or (get_or (coded_values p x fs) b []) c [] ≡ get_or (get_or (coded_values p y gs) b []) c []
           go true h =
               let hb : b < p.blocks = ltb-true b p.blocks h in
               value_row p x fs b c hb own

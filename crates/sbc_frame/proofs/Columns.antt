@@ -1,5 +1,5 @@
--- Arrays of subband samples, 16 rows of eight: their first rows replaced, block by block; zeros that are filled subband by subband; and the
--- array of the samples of n blocks.
+-- Arrays of subband samples, 16 rows of eight: their first rows replaced, block by block; zeros that are filled subband
+-- by subband; and the array of the samples of n blocks.
 -- Assumes nothing.
 use Prim.Native.Nat.{ℕ, ◌+◌, ◌≤◌, ◌<◌}
 use mathlib.Core.Path.{◌≡◌, refl, sym, ap, ap₂, ◌∙◌}

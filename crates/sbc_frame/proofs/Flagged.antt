@@ -1,5 +1,5 @@
--- Arrays of subband samples with those of every subband whose flag is set replaced in the first blocks: as a loop over the blocks replaces them,
--- and what it gives.
+-- Arrays of subband samples with those of every subband whose flag is set replaced in the first blocks: as a loop over
+-- the blocks replaces them, and what it gives.
 -- Assumes nothing.
 use Prim.Native.Nat.{ℕ, ◌+◌, ◌≤◌, ◌<◌}
 use mathlib.Core.Path.{◌≡◌, ap, ◌∙◌}

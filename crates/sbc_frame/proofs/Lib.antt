@@ -1,5 +1,5 @@
--- Laws of a frame: the bits of its values, where its fields lie, the frame that is written, what is read from a frame, coding one, block by block;
--- and of the arrays that the code holds it in.
+-- Laws of a frame: the bits of its values, where its fields lie, the frame that is written, what is read from a frame,
+-- coding one, block by block; and of the arrays that the code holds it in.
 pub mod Sizes
 pub mod Widths
 pub mod Positions

@@ -15,7 +15,8 @@ use Rattle.sbc_parameters.specs.declared.SbcParameters.{SbcParameters}
 use Rattle.sbc_parameters.specs.Parameters.{channels, accepted}
 use Rattle.sbc_parameters.specs.Sizes.{join_count, side_bits, block_bits, frame_length}
 use Rattle.sbc_frame.specs.Fields.{Fields, join_at, factor_at, value_at, width_at, channel_width}
-use Rattle.sbc_frame.specs.Layout.{flag_bits, channel_factor_bits, factor_bits, channel_value_bits, block_value_bits, value_bits, body_bits, filled, body, pack}
+use Rattle.sbc_frame.specs.Layout.{flag_bits, channel_factor_bits, factor_bits, channel_value_bits, block_value_bits, value_bits, body_bits}
+use Rattle.sbc_frame.specs.Layout.{filled, body, pack}
 use Rattle.sbc_frame.specs.Layout.{factor_position, value_position}
 use Rattle.sbc_frame.proofs.Widths.{Enough, block-width}
 use Rattle.sbc_frame.proofs.Positions.{side-bits, frame-room}
@@ -61,7 +62,8 @@ module _ (p : SbcParameters) (f : Fields) where
   length-channel_values : (b c : ℕ) → length (channel_value_bits p f b c) ≡ rows c
   unfolding channel_value_bits channel_width
   length-channel_values b c =
-      length-collect p.subbands (λ s. bits_of (widths c s) (value_at f b c s)) (widths c) (λ s. length-bits_of (widths c s) (value_at f b c s))
+      length-collect p.subbands (λ s. bits_of (widths c s) (value_at f b c s)) (widths c)
+      (λ s. length-bits_of (widths c s) (value_at f b c s))
 
   length-block_values : (b : ℕ) → length (block_value_bits p f b) ≡ total (channels p) rows
   unfolding block_value_bits

@@ -1,5 +1,5 @@
--- Where the fields of a frame lie: all inside the frame, whatever its scale factors are, so that reading never runs out; and they fill it but
--- for fewer than eight bits.
+-- Where the fields of a frame lie: all inside the frame, whatever its scale factors are, so that reading never runs
+-- out; and they fill it but for fewer than eight bits.
 -- Assumes nothing.
 use Prim.Native.Nat.{ℕ, zero, suc, ◌+◌, ◌-◌, ◌*◌, ◌%◌, ◌≤◌, ◌<◌}
 use mathlib.Core.Path.{◌≡◌, ap, ◌∙◌}

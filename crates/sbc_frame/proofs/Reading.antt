@@ -57,7 +57,8 @@ module _ (p : SbcParameters) (frame : List ℕ) where
     value_row b c hb hc = ap (λ (l : List (List ℕ)). get_or l c []) (value-rows b hb) ∙ get_or-build (channels p) (row b) c [] hc
 
     pub read-value : (b c s : ℕ) → b < p.blocks → c < channels p → s < p.subbands
-        → get_or (get_or (get_or (read_values p frame factors) b []) c []) s 0 ≡ number_at frame (value_position p factors b c s) (width_at p factors c s)
+        → get_or (get_or (get_or (read_values p frame factors) b []) c []) s 0
+        ≡ number_at frame (value_position p factors b c s) (width_at p factors c s)
     read-value b c s hb hc hs = ap (λ (l : List ℕ). get_or l s 0) (value_row b c hb hc) ∙ get_or-build p.subbands (number b c) s 0 hs
 
   -- what is read is well formed, whatever the bytes and their number

@@ -1,5 +1,6 @@
--- How the code of both directions holds what belongs to subbands, for the contracts of its inner functions alone: a number for each subband in a
--- row of eight, and the subband samples of a channel in 16 rows of eight, a row for each block. No call of a user's cites this.
+-- How the code of both directions holds what belongs to subbands, for the contracts of its inner functions alone: a
+-- number for each subband in a row of eight, and the subband samples of a channel in 16 rows of eight, a row for each
+-- block. No call of a user's cites this.
 -- From document 01, "Parameters", "Quantizing" and "Joint stereo".
 use Rattle.std.specs.Prelude.{ℕ, ◌≤◌, ◌<◌, ◌≡◌, List, [], eqb, ltb, get_or, set, replicate, ℤ, pos, nat_abs, if◌then◌else◌}
 use Rattle.laws.specs.Lists.{build}

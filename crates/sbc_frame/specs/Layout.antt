@@ -65,7 +65,9 @@ factor_position p c s = 32 + (join_count p + (c * (4 * p.subbands) + s * 4))
 -- behind all blocks before, all channels before in the block, and all subbands before in the channel
 unfoldable pub value_position : SbcParameters → List (List ℕ) → ℕ → ℕ → ℕ → ℕ
 value_position p factors b c s =
-    32 + (side_bits p + (b * total (channels p) (channel_width p factors) + (total c (channel_width p factors) + total s (width_at p factors c))))
+    32
+    + (side_bits p
+    + (b * total (channels p) (channel_width p factors) + (total c (channel_width p factors) + total s (width_at p factors c))))
 
 -- the join flags, from byte 4 on
 unfoldable pub read_join : SbcParameters → List ℕ → List Bool

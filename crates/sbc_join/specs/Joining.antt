@@ -1,5 +1,5 @@
--- How the code takes joint stereo, for the contracts of its inner functions alone: rows of eight, and the subband samples of a channel in 16 rows of
--- eight, a row for each block. No call of a user's cites this.
+-- How the code takes joint stereo, for the contracts of its inner functions alone: rows of eight, and the subband
+-- samples of a channel in 16 rows of eight, a row for each block. No call of a user's cites this.
 -- From document 01, "Joint stereo".
 use Rattle.std.specs.Prelude.{ℕ, ◌+◌, ◌&&◌, List, [], eqb, ltb, get_or, ℤ, pos, ◌+ℤ◌, ◌-ℤ◌, if◌then◌else◌}
 use Rattle.laws.specs.Lists.{build}

@@ -1,14 +1,13 @@
--- `pick_factors` meets its contract.
+-- `pick_factors` meets its contract: what is picked of scale factors is at most 15.
 -- Assumes nothing.
 use Rattle.std.proofs.Common.{rules}
-use Rattle.sbc_code.proofs.Chosen.{picked-low}
+use Rattle.sbc_code.proofs.Chosen.{picked_low, both_low}
 use Rattle.sbc_code.proofs.pick_factors.Goals as goal
 
-pub invariant_of-result : goal.invariant_of-result
-invariant_of-result c =
-    record {
-      left_long = search rules;
-      right_long = search rules;
-      left_within = picked-low _ _ _ c.pick_row.ensures c.args.plain.now.left_within c.args.joined.now.left_within;
-      right_within = picked-low _ _ _ c.pick_row-2.ensures c.args.plain.now.right_within c.args.joined.now.right_within;
-    }
+pub invariant_of-result-clause-within : goal.invariant_of-result-clause-within
+invariant_of-result-clause-within c =
+    let plain = c.args.plain.now.within in
+    let joined = c.args.joined.now.within in
+    let first = c.pick.ensures 0 in
+    let second = c.pick-2.ensures 0 in
+    both_low _ _ (search (rules, picked_low, plain, joined)) (search (rules, picked_low, plain, joined))

@@ -1,4 +1,5 @@
--- `pick_samples` meets its contract. The loop's invariant: the rows of the blocks passed are picked, and the others are as they were at entry.
+-- `pick_samples` meets its contract. The loop's invariant: the rows of the blocks passed are picked, and the others are
+-- as they were at entry.
 -- Assumes nothing.
 use Prim.Native.Nat.{◌≤◌}
 use mathlib.Core.Path.{◌≡◌}
