@@ -1,18 +1,21 @@
-// PCM to the subband samples of a frame's channels, block by block through each channel's analysis filterbank, into an
-// array of 128, eight places a block.
+// PCM to the subband samples of a frame's channels, block by block through each channel's analysis filterbank.
 #![tactic(auto)]
 
-ghost use Rattle.std.specs.Prelude.{◌≡◌, ◌+◌, ◌*◌, ◌≤◌, ◌<◌, eqb, length, get_or, replicate, pos, if◌then◌else◌};
+ghost use Rattle.std.specs.Prelude.{ℕ, ◌≡◌, ◌+◌, ◌*◌, ◌≤◌, ◌<◌, length, map, get_or, pos};
 ghost use Rattle.laws.specs.Lists.{build};
 ghost use Rattle.laws.specs.Sums.{up_to};
+ghost use Rattle.sbc_parameters.specs.Parameters.{channels};
+ghost use Rattle.sbc_parameters.specs.Sizes.{frame_samples};
 ghost use Rattle.sbc_filterbank.specs.Analysis.{shifted, analysis_outputs};
 ghost use Rattle.sbc_filterbank.specs.Subbands.{Bands, padded};
+ghost use Rattle.sbc_frame.specs.Arrays.{rows_of, no_samples, samples_array};
 ghost use Rattle.sbc_frame.specs.Channels.{pcm_in, analyze_blocks, analysis_after};
-ghost use Rattle.sbc_frame.specs.Arrays.{samples_array};
+ghost use Rattle.sbc_frame.specs.Encoding.{channel_samples, analysis_histories};
 
 use sbc_analyze::{AnalysisBank, analyze_by};
-use sbc_filterbank::PcmChannel;
-use sbc_frame::BlockCount;
+use sbc_filterbank::{Analysis, PcmChannel};
+use sbc_frame::{BlockCount, Blocks};
+use sbc_parameters::AcceptedSet;
 use sbc_tables::{Bank, Eight, Four};
 
 // A channel's samples of one block.
@@ -51,18 +54,19 @@ fn analyze_channel_by<B: AnalysisBank>(
     input: &[i16],
     blocks: BlockCount,
     channel: PcmChannel,
-) -> [i32; 128]
+) -> Blocks
     requires { blocks.count * B.SUBBANDS * channel.count ≤ length input.now }
     ensures history { history.new
         ≡ analysis_after blocks.count B.SUBBANDS history.old (pcm_in channel.count channel.index (blocks.count * B.SUBBANDS) input.now) }
-    ensures samples { result
+    ensures samples { result.rows
         ≡ samples_array blocks.count
         (analyze_blocks blocks.count B.SUBBANDS history.old (pcm_in channel.count channel.index (blocks.count * B.SUBBANDS) input.now)) }
 {
-    let mut samples = [0i32; 128];
+    let mut samples = Blocks {
+        rows: [[0i32; 8]; 16],
+    };
     for block in 0..blocks.count {
-        let outputs = analyze_block::<B>(history, input, block, channel);
-        samples[8 * block..8 * block + 8].copy_from_slice(&outputs);
+        samples.rows[block] = analyze_block::<B>(history, input, block, channel);
     }
     samples
 }
@@ -74,11 +78,11 @@ pub fn analyze_channel(
     blocks: BlockCount,
     subbands: usize,
     channel: PcmChannel,
-) -> [i32; 128]
+) -> Blocks
     requires { (Bands subbands) × (blocks.count * subbands * channel.count ≤ length input.now) }
     ensures history { history.new
         ≡ analysis_after blocks.count subbands history.old (pcm_in channel.count channel.index (blocks.count * subbands) input.now) }
-    ensures samples { result
+    ensures samples { result.rows
         ≡ samples_array blocks.count
         (analyze_blocks blocks.count subbands history.old (pcm_in channel.count channel.index (blocks.count * subbands) input.now)) }
 {
@@ -89,30 +93,35 @@ pub fn analyze_channel(
     analyze_channel_by::<Eight>(history, input, blocks, channel)
 }
 
-// The second channel's samples: zeros where there is one channel, whose history then stays as it is.
-pub fn analyze_second(
-    history: &mut [i16; 80],
+// All channels of a frame. Of a channel that the frame does not have the samples are zeros, and the history stays as it is.
+pub fn analyze_channels(
+    accepted: AcceptedSet,
+    histories: &mut [Analysis; 2],
     input: &[i16],
-    blocks: BlockCount,
-    subbands: usize,
-    channels: usize,
-) -> [i32; 128]
-    requires { (Bands subbands) × (0 < channels) × (channels ≤ 2) × (blocks.count * subbands * channels ≤ length input.now) }
-    ensures history { history.new
-        ≡ (if eqb channels 1 then history.old
-        else analysis_after blocks.count subbands history.old (pcm_in channels 1 (blocks.count * subbands) input.now)) }
-    ensures samples { result
-        ≡ (if eqb channels 1 then replicate 128 (pos 0)
-        else samples_array blocks.count
-        (analyze_blocks blocks.count subbands history.old (pcm_in channels 1 (blocks.count * subbands) input.now))) }
-    ensures long { length result ≡ 128 }
+) -> [Blocks; 2]
+    requires { frame_samples accepted.set ≤ length input.now }
+    ensures histories { map (λ a. a.history) histories.new
+        ≡ analysis_histories accepted.set (map (λ a. a.history) histories.old) input.now }
+    ensures samples { (c : ℕ) → c < channels accepted.set
+        → rows_of result c
+        ≡ samples_array accepted.set.blocks (channel_samples accepted.set (map (λ a. a.history) histories.old) input.now c) }
+    ensures silent { (c : ℕ) → channels accepted.set ≤ c → c < 2 → rows_of result c ≡ no_samples }
 {
-    if channels == 1 {
-        return [0i32; 128];
+    let blocks = BlockCount::from(accepted);
+    let subbands = usize::from(accepted.set.subbands);
+    let count = usize::from(accepted.set.channels());
+    let mut samples = [Blocks {
+        rows: [[0i32; 8]; 16],
+    }; 2];
+    for index in 0..count {
+        let channel = PcmChannel { index, count };
+        samples[index] = analyze_channel(
+            &mut histories[index].history,
+            input,
+            blocks,
+            subbands,
+            channel,
+        );
     }
-    let channel = PcmChannel {
-        index: 1,
-        count: channels,
-    };
-    analyze_channel(history, input, blocks, subbands, channel)
+    samples
 }

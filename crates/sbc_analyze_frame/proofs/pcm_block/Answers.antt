@@ -7,7 +7,7 @@ use mir.Syntax.{w16}
 use native.Mathlib.Omega.{arith}
 use lib.ListN.{get_or}
 use lib.IntN.{pos}
-use Rattle.laws.proofs.Arrays.{fill_none, filled, stored}
+use Rattle.laws.proofs.Arrays.{fill_none, stored}
 use Rattle.sbc_filterbank.proofs.Bands.{bands-le}
 use Rattle.sbc_analyze_frame.proofs.pcm_block.Goals as goal
 
@@ -21,6 +21,3 @@ loop-j-preserved g c =
       stored w16 8 _ _ _ _ (record { sfits = omega arith }) (omega (arith, bands-le g.met.B.Bank.bands)) c.loop-j.invariant.1
           (ap (λ (s : ℕ). get_or c.args.input.now (place s) (pos 0)) c.SUBBANDS.ensures),
     )
-
-pub returns : goal.returns
-returns g c = filled 8 _ _ _ _ (omega arith) (omega (arith, bands-le g.met.B.Bank.bands)) c.loop-j.invariant.1

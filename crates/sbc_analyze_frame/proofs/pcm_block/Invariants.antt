@@ -1,7 +1,7 @@
 -- `sbc_analyze_frame::pcm_block` meets its contract. The loop's invariant: the places before j hold the channel's samples, and the others
 -- 0.
 -- Assumes nothing.
-use Prim.Native.Nat.{◌+◌, ◌*◌, ◌-◌, ◌≤◌}
+use Prim.Native.Nat.{◌+◌, ◌*◌, ◌≤◌}
 use mathlib.Core.Path.{◌≡◌}
 use lib.ListN.{get_or}
 use lib.IntN.{pos}
@@ -13,6 +13,3 @@ abbrev pub invariant-loop-j : goal.invariant-loop-j
 invariant-loop-j g l =
     (l.j ≤ g.B.Bank.SUBBANDS)
     × (l.pcm ≡ build 8 (up_to l.j (λ k. get_or l.input ((l.block * g.B.Bank.SUBBANDS + k) * l.channel.count + l.channel.index) (pos 0))))
-
-abbrev pub decreases-loop-j : goal.decreases-loop-j
-decreases-loop-j g l = g.B.Bank.SUBBANDS - l.j
