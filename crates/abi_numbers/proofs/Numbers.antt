@@ -65,5 +65,6 @@ numbers-back n set =
 pub numbers-set : (p : SbcParameters) → is_set (numbers_of p) ≡ true
 unfolding is_set numbers_of
 numbers-set p =
-    rw (lt-ltb (mode_number p.channel_mode) 4 (mode-lt p.channel_mode), lt-ltb (allocation_number p.allocation) 2 (allocation-lt p.allocation))
-    refl
+    let mode = lt-ltb (mode_number p.channel_mode) 4 (mode-lt p.channel_mode) in
+    let allocation = lt-ltb (allocation_number p.allocation) 2 (allocation-lt p.allocation) in
+    rw (mode, allocation) refl

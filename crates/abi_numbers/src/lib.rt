@@ -1,9 +1,8 @@
-// The numbers that cross to C, and what they stand for: parameters, and what a call gives back. No enum may cross, so the mode, the allocation and
-// a refusal are numbers here; numbers that stand for nothing are not accepted.
+// The numbers that cross to C, and what they stand for: parameters, and what a call gives back. No enum may cross, so the
+// mode, the allocation and a refusal are numbers here; numbers that stand for nothing are not accepted.
 #![tactic(auto)]
 
-ghost use Rattle.std.specs.Prelude.{◌≡◌, if◌then◌else◌, None, Some};
-ghost use Rattle.sbc_parameters.specs.Header.{parse};
+ghost use Rattle.std.specs.Prelude.{◌≡◌, true, false, IfSome, IfNone};
 ghost use Rattle.sbc_parameters.specs.Sizes.{frame_length, frame_samples};
 ghost use Rattle.codec.specs.Answers.{told};
 ghost use Rattle.abi_numbers.specs.Numbers.{is_set, parameters_in, numbers_of, no_numbers, is_accepted, size_in};
@@ -11,7 +10,7 @@ ghost use Rattle.abi_numbers.specs.Numbers.{parsed_numbers, coded_numbers};
 
 use codec::{Error, Progress};
 use sbc_modes::{SbcAllocation, SbcChannelMode};
-use sbc_parameters::SbcParameters;
+use sbc_parameters::{AcceptedSet, SbcParameters};
 
 // The parameters of a stream: the mode and the allocation by their numbers in the header.
 #[repr(C)]
@@ -45,44 +44,85 @@ pub struct ParsedNumbers {
     pub refusal: u8,
 }
 
-// In the place of parameters where there are none.
-pub const NO_PARAMETERS: ParameterNumbers = ParameterNumbers {
-    sample_rate: 0,
-    channel_mode: 0,
-    allocation: 0,
-    blocks: 0,
-    subbands: 0,
-    bitpool: 0,
-};
+impl ParameterNumbers {
+    // In the place of parameters where there are none.
+    pub const NONE: ParameterNumbers = ParameterNumbers {
+        sample_rate: 0,
+        channel_mode: 0,
+        allocation: 0,
+        blocks: 0,
+        subbands: 0,
+        bitpool: 0,
+    };
 
-// The constant has no contract of its own: this one says which definition it is.
-#[tactic(auto, unfolding(crate::specs::Numbers::no_numbers))]
-pub fn no_numbers() -> ParameterNumbers
-    ensures { result ≡ no_numbers }
-{
-    NO_PARAMETERS
-}
+    // The constant has no contract of its own: this one says which definition it is.
+    #[tactic(auto, unfolding(crate::specs::Numbers::no_numbers))]
+    pub fn none() -> ParameterNumbers
+        ensures { result ≡ no_numbers }
+    {
+        ParameterNumbers::NONE
+    }
 
-// Whether the mode and the allocation are numbers of one.
-#[tactic(auto, unfolding(crate::specs::Numbers::is_set))]
-pub fn is_set(numbers: ParameterNumbers) -> bool
-    ensures { result ≡ is_set numbers }
-{
-    numbers.channel_mode < 4 && numbers.allocation < 2
-}
+    // Whether the mode and the allocation are numbers of one.
+    #[tactic(auto, unfolding(crate::specs::Numbers::is_set))]
+    pub fn is_set(self) -> bool
+        ensures { result ≡ is_set self }
+    {
+        self.channel_mode < 4 && self.allocation < 2
+    }
 
-// The parameters that numbers stand for.
-#[tactic(auto, unfolding(crate::specs::Numbers::parameters_in))]
-pub fn parameters_in(numbers: ParameterNumbers) -> SbcParameters
-    ensures { result ≡ parameters_in numbers }
-{
-    SbcParameters {
-        sample_rate: numbers.sample_rate,
-        channel_mode: SbcChannelMode::from_number(numbers.channel_mode),
-        allocation: SbcAllocation::from_number(numbers.allocation),
-        blocks: numbers.blocks,
-        subbands: numbers.subbands,
-        bitpool: numbers.bitpool,
+    // The parameters that the numbers stand for.
+    #[tactic(auto, unfolding(crate::specs::Numbers::parameters_in))]
+    pub fn parameters(self) -> SbcParameters
+        ensures { result ≡ parameters_in self }
+    {
+        SbcParameters {
+            sample_rate: self.sample_rate,
+            channel_mode: SbcChannelMode::from_number(self.channel_mode),
+            allocation: SbcAllocation::from_number(self.allocation),
+            blocks: self.blocks,
+            subbands: self.subbands,
+            bitpool: self.bitpool,
+        }
+    }
+
+    // Whether the numbers stand for accepted parameters.
+    #[tactic(auto, unfolding(crate::specs::Numbers::is_accepted))]
+    pub fn is_accepted(self) -> bool
+        ensures { result ≡ is_accepted self }
+    {
+        self.is_set() && AcceptedSet::try_from(self.parameters()).is_ok()
+    }
+
+    // The parameters that the numbers stand for, where they are accepted.
+    #[tactic(auto, unfolding(crate::specs::Numbers::is_accepted))]
+    pub fn accepted(self) -> Option<AcceptedSet>
+        ensures some { IfSome result (λ taken. (is_accepted self ≡ true) × (taken.set ≡ parameters_in self)) }
+        ensures none { IfNone result (is_accepted self ≡ false) }
+    {
+        if !self.is_accepted() {
+            return None;
+        }
+        Some(AcceptedSet {
+            set: self.parameters(),
+        })
+    }
+
+    // The bytes of a frame; 0 where the parameters are not accepted.
+    // Kept: this and `frame_samples` are twins, and 0 stands for none, since C gets a number and no Option; each is one line.
+    #[tactic(auto, unfolding(crate::specs::Numbers::size_in))]
+    pub fn frame_length(self) -> usize
+        ensures { result ≡ size_in frame_length self }
+    {
+        self.accepted().map_or(0, |taken| taken.set.frame_length())
+    }
+
+    // The samples of a frame, all channels together; 0 where the parameters are not accepted.
+    #[tactic(auto, unfolding(crate::specs::Numbers::size_in))]
+    pub fn frame_samples(self) -> usize
+        ensures { result ≡ size_in frame_samples self }
+    {
+        self.accepted().map_or(0, |taken| taken.set.frame_samples())
     }
 }
 
@@ -103,71 +143,42 @@ impl From<SbcParameters> for ParameterNumbers {
     }
 }
 
-// Whether the numbers stand for accepted parameters.
-#[tactic(auto, unfolding(crate::specs::Numbers::is_accepted))]
-pub fn is_accepted(numbers: ParameterNumbers) -> bool
-    ensures { result ≡ is_accepted numbers }
-{
-    is_set(numbers) && parameters_in(numbers).accepted().is_ok()
-}
-
-// The parameters that numbers stand for, where they are accepted.
-pub fn accepted_in(numbers: ParameterNumbers) -> Option<SbcParameters>
-    ensures { result ≡ (if is_accepted numbers then Some (parameters_in numbers) else None) }
-{
-    is_accepted(numbers).then_some(parameters_in(numbers))
-}
-
 // The numbers of what a decode or encode call answers.
-// Kept: as a From it would be no plainer at its callers, and this public function would stay beside it and say the same.
-#[tactic(auto, unfolding(crate::specs::Numbers::coded_numbers))]
-pub fn coded_numbers(answer: Result<Progress, Error>) -> CodedNumbers
-    ensures { result ≡ coded_numbers (told answer) }
-{
-    match answer {
-        Ok(progress) => CodedNumbers {
-            consumed: progress.consumed,
-            produced: progress.produced,
-            refusal: 0,
-        },
-        Err(error) => CodedNumbers {
-            consumed: 0,
-            produced: 0,
-            refusal: u8::from(error),
-        },
+impl From<Result<Progress, Error>> for CodedNumbers {
+    ghost from_gives = { λ answer numbers. numbers ≡ coded_numbers (told answer) };
+
+    #[tactic(auto, unfolding(crate::specs::Numbers::coded_numbers))]
+    fn from(answer: Result<Progress, Error>) -> CodedNumbers {
+        match answer {
+            Ok(progress) => CodedNumbers {
+                consumed: progress.consumed,
+                produced: progress.produced,
+                refusal: 0,
+            },
+            Err(error) => CodedNumbers {
+                consumed: 0,
+                produced: 0,
+                refusal: u8::from(error),
+            },
+        }
     }
 }
 
-// The numbers of the parameters that the first bytes of a frame say.
-#[tactic(auto, unfolding(crate::specs::Numbers::parsed_numbers, crate::specs::Numbers::no_numbers))]
-pub fn parsed_numbers(header: &[u8]) -> ParsedNumbers
-    ensures { result ≡ parsed_numbers (parse header.now) }
-{
-    match SbcParameters::parse(header) {
-        Ok(parameters) => ParsedNumbers {
-            parameters: ParameterNumbers::from(parameters),
-            refusal: 0,
-        },
-        Err(error) => ParsedNumbers {
-            parameters: NO_PARAMETERS,
-            refusal: u8::from(error),
-        },
+// The numbers of what a look at a header answers.
+impl From<Result<SbcParameters, Error>> for ParsedNumbers {
+    ghost from_gives = { λ answer numbers. numbers ≡ parsed_numbers (told answer) };
+
+    #[tactic(auto, unfolding(crate::specs::Numbers::parsed_numbers, crate::specs::Numbers::no_numbers))]
+    fn from(answer: Result<SbcParameters, Error>) -> ParsedNumbers {
+        match answer {
+            Ok(parameters) => ParsedNumbers {
+                parameters: ParameterNumbers::from(parameters),
+                refusal: 0,
+            },
+            Err(error) => ParsedNumbers {
+                parameters: ParameterNumbers::NONE,
+                refusal: u8::from(error),
+            },
+        }
     }
-}
-
-// The bytes of a frame; 0 where the parameters are not accepted.
-// Kept: this and `frame_samples_in` are twins, and 0 stands for none, since C gets a number and no Option; each is one line.
-#[tactic(auto, unfolding(crate::specs::Numbers::size_in))]
-pub fn frame_length_in(numbers: ParameterNumbers) -> usize
-    ensures { result ≡ size_in frame_length numbers }
-{
-    accepted_in(numbers).map_or(0, SbcParameters::frame_length)
-}
-
-// The samples of a frame, all channels together; 0 where the parameters are not accepted.
-#[tactic(auto, unfolding(crate::specs::Numbers::size_in))]
-pub fn frame_samples_in(numbers: ParameterNumbers) -> usize
-    ensures { result ≡ size_in frame_samples numbers }
-{
-    accepted_in(numbers).map_or(0, SbcParameters::frame_samples)
 }
