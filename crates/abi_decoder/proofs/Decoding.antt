@@ -27,7 +27,8 @@ use Rattle.sbc_frame.specs.Decoding.{synthesis_histories}
 use Rattle.sbc_decoder.proofs.Taking.{decode-induction}
 use Rattle.sbc_decoder.proofs.Refusals.{decode-refused}
 use Rattle.abi_numbers.specs.Numbers.{no_numbers, coded_numbers}
-use Rattle.abi_decoder.specs.Decoder.{is_blank, is_held, is_decoder, last_in, synthesis_of, decoder_in, held_number, held_numbers, absent, state_of, DecodeAfter, after_decode, decode_state, after_seek, seek_numbers, seek_state}
+use Rattle.abi_decoder.specs.Decoder.{is_blank, is_held, is_decoder, last_in, decoder_in, held_number, held_numbers, absent, state_of}
+use Rattle.abi_decoder.specs.Decoder.{DecodeAfter, after_decode, decode_state, after_seek, seek_state}
 use Rattle.abi_numbers.specs.declared.ParameterNumbers.{ParameterNumbers}
 use Rattle.abi_decoder.specs.declared.DecoderState.{DecoderState}
 use Rattle.abi_numbers.proofs.Numbers.{parameters-back, numbers-back, numbers-set}
@@ -53,12 +54,14 @@ blank_none n blank =
       bitpool = bitpool i;
     }
 
-held_back : (has : ℕ) (n : ParameterNumbers) → is_held has n ≡ true → (held_number (last_in has n) ≡ has) × (held_numbers (last_in has n) ≡ n)
-unfolding is_held last_in held_number held_numbers
+held_back : (has : ℕ) (n : ParameterNumbers) → is_held has n ≡ true
+    → (held_number (last_in has n) ≡ has) × (held_numbers (last_in has n) ≡ n)
 held_back zero n h = (refl, blank_none n h)
 held_back (suc zero) n h = (refl, numbers-back n h)
 held_back (suc (suc k)) n h =
-    let no : is_held (suc (suc k)) n ≡ false = rw (ne_eqb (suc (suc k)) 0 (λ e. omega (arith, e)), ne_eqb (suc (suc k)) 1 (λ e. omega (arith, e))) refl in
+    let none = ne_eqb (suc (suc k)) 0 (λ e. omega (arith, e)) in
+    let one = ne_eqb (suc (suc k)) 1 (λ e. omega (arith, e)) in
+    let no : is_held (suc (suc k)) n ≡ false = rw (none, one) refl in
     absurd (true≢false (sym h ∙ no))
 
 bit-back : (n : ℕ) → n < 2 → (if eqb n 1 then 1 else 0) ≡ n
@@ -67,7 +70,7 @@ bit-back (suc zero) lt = refl
 bit-back (suc (suc n)) lt = absurd (omega arith)
 
 pub state-back : (s : DecoderState) → is_decoder s ≡ true → state_of (decoder_in s) ≡ s
-unfolding is_decoder synthesis_of decoder_in state_of
+unfolding is_decoder decoder_in state_of
 state-back s is =
     let f = ltb s.finishing 2 in
     let h = is_held s.has_parameters s.parameters in
@@ -89,7 +92,6 @@ state-back s is =
 -- ---- a decoder, its state, and the decoder again
 
 last-back : (l : Option SbcParameters) → last_in (held_number l) (held_numbers l) ≡ l
-unfolding last_in held_number held_numbers
 last-back None = refl
 last-back (Some p) = ap Some (parameters-back p)
 
@@ -98,7 +100,7 @@ test_back true = refl
 test_back false = refl
 
 pub decoder-back : (d : SbcDecoder) → length d.synthesis ≡ 2 → decoder_in (state_of d) ≡ d
-unfolding collect build synthesis_of decoder_in state_of
+unfolding collect build decoder_in state_of
 decoder-back d two =
     let last = last-back d.parameters in
     let histories = build-is 2 (λ i. get_or d.synthesis i absent) d.synthesis absent two (λ i h. refl) in
@@ -106,7 +108,7 @@ decoder-back d two =
     λ i. record { parameters = last i; synthesis = histories i; finishing = finishing i; skip = d.skip }
 
 last-held : (l : Option SbcParameters) → is_held (held_number l) (held_numbers l) ≡ true
-unfolding no_numbers is_blank is_held held_number held_numbers
+unfolding no_numbers is_blank
 last-held None = refl
 last-held (Some p) = numbers-set p
 
@@ -130,7 +132,7 @@ pub new-zeros : state_of new_decoder
       has_parameters = 0;
       finishing = 0;
     }
-unfolding no_synthesis cleared new_decoder held_number held_numbers state_of
+unfolding no_synthesis cleared new_decoder state_of
 new-zeros = refl
 
 -- ---- the calls on a decoder's state are those on the decoder
@@ -145,7 +147,8 @@ unfolding seek_state
 seek-of d position two = rw (state-stands d) (ap (λ x. after_seek (seek x position)) (decoder-back d two))
 
 -- a decode call leaves two histories
-two-after : (d : SbcDecoder) (input : List ℕ) (output : List ℤ) → length d.synthesis ≡ 2 → length (decode_all d input output).decoder.synthesis ≡ 2
+two-after : (d : SbcDecoder) (input : List ℕ) (output : List ℤ) → length d.synthesis ≡ 2
+    → length (decode_all d input output).decoder.synthesis ≡ 2
 unfolding with_parameters with_synthesis next_decoder play synthesis_histories
 two-after =
     decode-induction (λ d input output r. length d.synthesis ≡ 2 → length r.decoder.synthesis ≡ 2) (λ d input output s e two. two)
@@ -153,7 +156,8 @@ two-after =
 
 -- the next call on the state that a call left is the next call on the decoder that it left
 pub decode-again : (s : DecoderState) (input next : List ℕ) (output room : List ℤ) → is_decoder s ≡ true
-    → decode_state (decode_state s input output).state next room ≡ after_decode (decode (decode (decoder_in s) input output).decoder next room)
+    → decode_state (decode_state s input output).state next room
+    ≡ after_decode (decode (decode (decoder_in s) input output).decoder next room)
 unfolding decoder_in decode after_decode decode_state
 decode-again s input next output room is =
     rw is (decode-of (decode (decoder_in s) input output).decoder next room (two-after (decoder_in s) input output refl))
@@ -167,13 +171,15 @@ pub decode-stays : (s : DecoderState) (input : List ℕ) (output : List ℤ) (n 
     → Kept s output (decode_state s input output)
 unfolding coded_numbers after_decode decode_state
 decode-stays s input output n =
-    by-test (λ (r : DecodeAfter). r.answer.refusal ≡ suc n → Kept s output r) (is_decoder s) (after_decode (decode (decoder_in s) input output))
+    by-test (λ (r : DecodeAfter). r.answer.refusal ≡ suc n → Kept s output r) (is_decoder s)
+    (after_decode (decode (decoder_in s) input output))
     (record { answer = coded_numbers (refuses 3); state = s; output = output })
     (λ is. go is (decode (decoder_in s) input output).answer refl)
     (λ _ _. (refl, refl))
   where
     go : is_decoder s ≡ true → (a : Told Progress) → (decode (decoder_in s) input output).answer ≡ a
-        → (coded_numbers (decode (decoder_in s) input output).answer).refusal ≡ suc n → Kept s output (after_decode (decode (decoder_in s) input output))
+        → (coded_numbers (decode (decoder_in s) input output).answer).refusal ≡ suc n
+        → Kept s output (after_decode (decode (decoder_in s) input output))
     go is (gives progress) e h = absurd (omega (arith, sym (ap (λ x. (coded_numbers x).refusal) e) ∙ h))
     go is (refuses m) e h =
         let kept = decode-refused (decoder_in s) input output m e in
@@ -196,27 +202,3 @@ blank-is n =
     ap (λ k. eqb k 0) e ∙ simp zero-sum
 
 pub ruleset blanks = (blank-is)
-
-module _ (s : DecoderState) (input : List ℕ) (output : List ℤ) where
-  pub decode-none : is_decoder s ≡ false → decode_state s input output ≡ record { answer = coded_numbers (refuses 3); state = s; output = output }
-  unfolding decode_state
-  decode-none h = rw h
-
-  pub decode-some : is_decoder s ≡ true → decode_state s input output
-      ≡ (let r = decode (decoder_in s) input output in record { answer = coded_numbers r.answer; state = state_of r.decoder; output = r.output })
-  unfolding decode_state after_decode
-  decode-some h = rw h
-
-pub ruleset decoding = (decode-none, decode-some)
-
-module _ (s : DecoderState) (position : ℕ) where
-  pub seek-none : is_decoder s ≡ false → seek_state s position ≡ record { answer = seek_numbers (refuses 3); state = s }
-  unfolding seek_state
-  seek-none h = rw h
-
-  pub seek-some : is_decoder s ≡ true → seek_state s position
-      ≡ (let r = seek (decoder_in s) position in record { answer = seek_numbers r.answer; state = state_of r.decoder })
-  unfolding seek_state after_seek
-  seek-some h = rw h
-
-pub ruleset seeking = (seek-none, seek-some)

@@ -1,5 +1,5 @@
--- A decoder as numbers, and its calls on them: what the state stands for goes through the call of sbc_decoder, and the result is numbers again. A state that
--- stands for no decoder is refused with InvalidParameter, and stays.
+-- A decoder as numbers, and its calls on them: what the state stands for goes through the call of sbc_decoder, and the
+-- result is numbers again. A state that stands for no decoder is refused with InvalidParameter, and stays.
 use Rattle.std.specs.Prelude.{ℕ, ◌+◌, Bool, ◌&&◌, List, [], ◌∷◌, eqb, ltb, ℤ, get_or, if◌then◌else◌, Option, None, Some}
 use Rattle.laws.specs.Answers.{Told, gives, refuses}
 use Rattle.sbc_filterbank.specs.declared.synthesis.Synthesis.{Synthesis}
@@ -21,7 +21,7 @@ unfoldable pub is_blank : ParameterNumbers → Bool
 is_blank n = eqb (n.sample_rate + (n.channel_mode + n.allocation + n.blocks + n.subbands) + n.bitpool) 0
 
 -- 0 and zeros for no last frame, 1 and a set for one
-unfoldable pub is_held : ℕ → ParameterNumbers → Bool
+abbrev pub is_held : ℕ → ParameterNumbers → Bool
 is_held has n = if eqb has 0 then is_blank n else (eqb has 1 && is_set n)
 
 unfoldable pub is_decoder : DecoderState → Bool
@@ -29,10 +29,10 @@ is_decoder s = ltb s.finishing 2 && is_held s.has_parameters s.parameters
 
 -- ---- the decoder of a state, and the state of a decoder
 
-unfoldable pub last_in : ℕ → ParameterNumbers → Option SbcParameters
+abbrev pub last_in : ℕ → ParameterNumbers → Option SbcParameters
 last_in has n = if eqb has 1 then Some (parameters_in n) else None
 
-unfoldable pub synthesis_of : List ℤ → ℕ → Synthesis
+abbrev pub synthesis_of : List ℤ → ℕ → Synthesis
 synthesis_of values newest = record { values = values; newest = newest }
 
 unfoldable pub decoder_in : DecoderState → SbcDecoder
@@ -44,11 +44,11 @@ decoder_in s =
       skip = s.skip;
     }
 
-unfoldable pub held_number : Option SbcParameters → ℕ
+abbrev pub held_number : Option SbcParameters → ℕ
 held_number None = 0
 held_number (Some p) = 1
 
-unfoldable pub held_numbers : Option SbcParameters → ParameterNumbers
+abbrev pub held_numbers : Option SbcParameters → ParameterNumbers
 held_numbers None = no_numbers
 held_numbers (Some p) = numbers_of p
 
