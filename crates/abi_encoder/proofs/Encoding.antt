@@ -2,8 +2,8 @@
 -- Assumes nothing.
 use Prim.Native.Nat.{ℕ, suc}
 use mathlib.Core.Path.{◌≡◌, refl, sym, ap, ◌∙◌}
-use mathlib.Core.Bool.{true, false}
-use mathlib.Core.List.{List}
+use mathlib.Core.Bool.{true}
+use mathlib.Core.List.{List, []}
 use native.Mathlib.Omega.{arith}
 use lib.IntN.{ℤ}
 use lib.ListN.{length, get_or}
@@ -16,7 +16,7 @@ use Rattle.sbc_encoder.specs.Encode.{encode}
 use Rattle.sbc_encoder.specs.declared.SbcEncoder.{SbcEncoder}
 use Rattle.sbc_encoder.proofs.Refusals.{encode-refused}
 use Rattle.abi_numbers.specs.Numbers.{is_set, coded_numbers}
-use Rattle.abi_encoder.specs.Encoder.{encoder_in, absent, state_of, EncodeAfter, after_encode, encode_state}
+use Rattle.abi_encoder.specs.Encoder.{encoder_in, state_of, EncodeAfter, after_encode, encode_state}
 use Rattle.abi_encoder.specs.declared.EncoderState.{EncoderState}
 use Rattle.abi_numbers.proofs.Numbers.{parameters-back, numbers-back, numbers-set}
 
@@ -30,7 +30,8 @@ pub encoder-back : (e : SbcEncoder) → length e.analysis ≡ 2 → encoder_in (
 unfolding collect build encoder_in state_of
 encoder-back e two =
     let parameters = parameters-back e.parameters in
-    let histories = build-is 2 (λ i. get_or e.analysis i absent) e.analysis absent two (λ i h. refl) in
+    let entry = λ (i : ℕ). get_or e.analysis i (record { history = [] }) in
+    let histories = build-is 2 entry e.analysis (record { history = [] }) two (λ i h. refl) in
     λ i. record { parameters = parameters i; analysis = histories i }
 
 pub state-stands : (e : SbcEncoder) → is_set (state_of e).parameters ≡ true
@@ -51,27 +52,16 @@ pub encode-stays : (s : EncoderState) (pcm : List ℤ) (output : List ℕ) (n : 
     → Kept s output (encode_state s pcm output)
 unfolding coded_numbers after_encode encode_state
 encode-stays s pcm output n =
-    by-test (λ (r : EncodeAfter). r.answer.refusal ≡ suc n → Kept s output r) (is_set s.parameters) (after_encode (encode (encoder_in s) pcm output))
+    by-test (λ (r : EncodeAfter). r.answer.refusal ≡ suc n → Kept s output r) (is_set s.parameters)
+    (after_encode (encode (encoder_in s) pcm output))
     (record { answer = coded_numbers (refuses 3); state = s; output = output })
     (λ is. go is (encode (encoder_in s) pcm output).answer refl)
     (λ _ _. (refl, refl))
   where
     go : is_set s.parameters ≡ true → (a : Told Progress) → (encode (encoder_in s) pcm output).answer ≡ a
-        → (coded_numbers (encode (encoder_in s) pcm output).answer).refusal ≡ suc n → Kept s output (after_encode (encode (encoder_in s) pcm output))
+        → (coded_numbers (encode (encoder_in s) pcm output).answer).refusal ≡ suc n
+        → Kept s output (after_encode (encode (encoder_in s) pcm output))
     go is (gives progress) e h = absurd (omega (arith, sym (ap (λ x. (coded_numbers x).refusal) e) ∙ h))
     go is (refuses m) e h =
         let kept = encode-refused (encoder_in s) pcm output m e in
         (ap state_of kept.0 ∙ state-back s is, kept.1)
-
--- ---- for the code
-module _ (s : EncoderState) (pcm : List ℤ) (output : List ℕ) where
-  pub encode-none : is_set s.parameters ≡ false → encode_state s pcm output ≡ record { answer = coded_numbers (refuses 3); state = s; output = output }
-  unfolding encode_state
-  encode-none h = rw h
-
-  pub encode-some : is_set s.parameters ≡ true → encode_state s pcm output
-      ≡ (let r = encode (encoder_in s) pcm output in record { answer = coded_numbers r.answer; state = state_of r.encoder; output = r.output })
-  unfolding encode_state after_encode
-  encode-some h = rw h
-
-pub ruleset encoding = (encode-none, encode-some)

@@ -3,7 +3,6 @@ use Rattle.std.specs.Prelude.{ℕ, List, [], ℤ, get_or, if◌then◌else◌}
 use Rattle.laws.specs.Answers.{refuses}
 use Rattle.sbc_encoder.specs.Encode.{Encoded, encoder_of, reset_encoder, encode}
 use Rattle.sbc_encoder.specs.Told.{encoder_with}
-use Rattle.sbc_encoder.specs.declared.Analysis.{Analysis}
 use Rattle.sbc_encoder.specs.declared.SbcEncoder.{SbcEncoder}
 use Rattle.abi_numbers.specs.Numbers.{is_set, parameters_in, numbers_of, is_accepted, coded_numbers}
 use Rattle.abi_numbers.specs.declared.ParameterNumbers.{ParameterNumbers}
@@ -15,15 +14,15 @@ use Rattle.abi_encoder.specs.declared.EncoderState.{EncoderState}
 unfoldable pub encoder_in : EncoderState → SbcEncoder
 encoder_in s = encoder_with (parameters_in s.parameters) s.left s.right
 
--- where a list has no such channel; an encoder has two
-abbrev pub absent : Analysis
-absent = record { history = [] }
+-- the last samples of a channel; an encoder has two
+abbrev pub history : SbcEncoder → ℕ → List ℤ
+history e channel = (get_or e.analysis channel (record { history = [] })).history
 
 unfoldable pub state_of : SbcEncoder → EncoderState
 state_of e =
     record {
-      left = (get_or e.analysis 0 absent).history;
-      right = (get_or e.analysis 1 absent).history;
+      left = history e 0;
+      right = history e 1;
       parameters = numbers_of e.parameters;
     }
 

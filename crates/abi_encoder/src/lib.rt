@@ -5,36 +5,36 @@ ghost use Rattle.std.specs.Prelude.{◌≡◌, if◌then◌else◌, None, Some};
 ghost use Rattle.abi_numbers.specs.Numbers.{is_set};
 ghost use Rattle.abi_encoder.specs.Encoder.{encoder_in, state_of, encode_state, create_state, reset_state};
 
-use abi_numbers::{
-    CodedNumbers, ParameterNumbers, accepted_in, coded_numbers, is_set, parameters_in,
-};
+use abi_numbers::{CodedNumbers, ParameterNumbers};
 use codec::Error;
 use sbc_encoder::{Analysis, SbcEncoder};
 
 // An encoder.
+// Kept: C names these fields, in this order (`sbc.h`), the two channels side by side. An array of two would lie in memory
+// as they do, but C has no such field.
 #[repr(C)]
 #[derive(Clone, Copy)]
 pub struct EncoderState {
     // The last samples of each channel, newest first.
-    // Kept: C's layout: two fields side by side for the two channels.
     pub left: [i16; 80],
     pub right: [i16; 80],
     pub parameters: ParameterNumbers,
 }
 
 // The state of an encoder.
-// Kept: no From, since it is private and reads an encoder that is only lent; `EncoderState::from(&encoder)` is no plainer.
-#[tactic(auto, unfolding(crate::specs::Encoder::state_of))]
-fn state_of(encoder: &SbcEncoder) -> EncoderState
-    ensures { result ≡ state_of encoder.now }
-{
-    let [first, second] = encoder.analysis;
-    let left = first.history;
-    let right = second.history;
-    EncoderState {
-        left,
-        right,
-        parameters: ParameterNumbers::from(encoder.parameters),
+impl From<&SbcEncoder> for EncoderState {
+    ghost from_gives = { λ encoder state. state ≡ state_of encoder.now };
+
+    #[tactic(auto, unfolding(crate::specs::Encoder::state_of))]
+    fn from(encoder: &SbcEncoder) -> EncoderState {
+        let [first, second] = encoder.analysis;
+        let left = first.history;
+        let right = second.history;
+        EncoderState {
+            left,
+            right,
+            parameters: ParameterNumbers::from(encoder.parameters),
+        }
     }
 }
 
@@ -44,28 +44,28 @@ impl EncoderState {
     fn encoder(&self) -> Option<SbcEncoder>
         ensures { result ≡ (if is_set self.now.parameters then Some (encoder_in self.now) else None) }
     {
-        if !is_set(self.parameters) {
+        if !self.parameters.is_set() {
             return None;
         }
         let left = self.left;
         let right = self.right;
         Some(SbcEncoder {
-            parameters: parameters_in(self.parameters),
+            parameters: self.parameters.parameters(),
             analysis: [Analysis { history: left }, Analysis { history: right }],
         })
     }
 
-    // Makes a new encoder with these parameters, with silence in both channels: 0, or the refusal's number where they are not accepted, and the
-    // state stays.
+    // Makes a new encoder with these parameters, with silence in both channels: 0, or the refusal's number where they are
+    // not accepted, and the state stays.
     // Kept: a number and no Result, since it goes to C as it is.
     #[tactic(auto, unfolding(crate::specs::Encoder::create_state))]
     pub fn create(&mut self, parameters: ParameterNumbers) -> u8
         ensures { record { refusal = result; state = self.new } ≡ create_state self.old parameters }
     {
-        let Some(accepted) = accepted_in(parameters) else {
+        let Some(accepted) = parameters.accepted() else {
             return u8::from(Error::InvalidParameter);
         };
-        *self = state_of(&SbcEncoder::silent(accepted));
+        *self = EncoderState::from(&SbcEncoder::silent(accepted.set));
         0
     }
 
@@ -78,19 +78,21 @@ impl EncoderState {
             return;
         };
         encoder.reset();
-        *self = state_of(&encoder);
+        *self = EncoderState::from(&encoder);
     }
 
     // Encodes as many frames as both buffers hold; a state that stands for no encoder is refused, and stays.
-    #[tactic(auto, using(crate::proofs::Encoding::encoding))]
+    // Kept: the encoder is made, called and stored here and in `reset`; a function that took the call, as abi_decoder has for
+    // its four calls, would be longer than these two.
+    #[tactic(auto, unfolding(crate::specs::Encoder::encode_state, crate::specs::Encoder::after_encode))]
     pub fn encode(&mut self, input: &[i16], output: &mut [u8]) -> CodedNumbers
         ensures { record { answer = result; state = self.new; output = output.new } ≡ encode_state self.old input.now output.old }
     {
         let Some(mut encoder) = self.encoder() else {
-            return coded_numbers(Err(Error::InvalidParameter));
+            return CodedNumbers::from(Err(Error::InvalidParameter));
         };
         let answer = encoder.encode(input, output);
-        *self = state_of(&encoder);
-        coded_numbers(answer)
+        *self = EncoderState::from(&encoder);
+        CodedNumbers::from(answer)
     }
 }
