@@ -1,6 +1,7 @@
--- Of the shares of any list of needs: the bitpool is shared out whole, at most 16 to a need, and by need. All of it follows from the heights of
--- the needs above the level. `grown k`, the bits counted for a need down to the level, gives the parts of the levels and the base; so the
--- search ends where the count is exact or passes, the round leaves at most one bit, and each need's bits lie between its base and `grown k + 1`.
+-- Of the shares of any list of needs: the bitpool is shared out whole, at most 16 to a need, and by need. All of it
+-- follows from the heights of the needs above the level. `grown k`, the bits counted for a need down to the level, gives
+-- the parts of the levels and the base; so the search ends where the count is exact or passes, the round leaves at most
+-- one bit, and each need's bits lie between its base and `grown k + 1`.
 -- Assumes nothing.
 use mathlib.Core.Path.{◌≡◌, refl, sym, ap, ◌∙◌}
 use mathlib.Core.Logic.{◌⊎◌, inl, inr, ⊎_elim}

@@ -34,8 +34,9 @@ level_part k = if eqb k 1 then 2 else if leb 2 k && leb k 15 then 1 else 0
 unfoldable pub level_bits : List ℕ → ℕ
 level_bits ks = sum (map level_part ks)
 
--- From level v, with count bits above it, down by one to where the running sum reaches or passes bitpool: one lower still if it is exact; that
--- level, its part dropped, if it passes. `distance`, v's distance above the least need minus sixteen, falls; no accepted set comes to its end.
+-- From level v, with count bits above it, down by one to where the running sum reaches or passes bitpool: one lower still
+-- if it is exact; that level, its part dropped, if it passes. `distance`, v's distance above the least need minus
+-- sixteen, falls; no accepted set comes to its end.
 unfoldable pub descend : ℕ → List ℤ → ℕ → ℤ → ℕ → ℤ
 descend zero needs bitpool v count = v
 descend (suc distance) needs bitpool v count =

@@ -1,10 +1,12 @@
 // How a group shares its bitpool by need: its needs stand in a slice, 32 higher, in the order in which they are served.
 #![tactic(auto)]
 
-ghost use Rattle.std.specs.Prelude.{◌≡◌, ◌++◌, map, ◌-◌, ◌≤◌, nat_lt, min, max, length, take, drop, replicate};
+ghost use Rattle.std.specs.Prelude.{◌≡◌, ◌++◌, map, ◌-◌, ◌≤◌, ◌<◌, nat_lt, min, max, length, take, drop, replicate};
 ghost use Rattle.std.specs.List.{fold, sum_by, position};
 ghost use Rattle.sbc_share.specs.Share.{sum, level_part, level_bits, descend, level_of, base_bits, round_gain, round_bits, last_bit, share};
 ghost use Rattle.sbc_share.specs.Raised.{lowered, excesses, Servable};
+
+use laws::sum_of;
 
 // The bits that a need adds at the level that it stands k above. The longest range comes first: so the loop over the needs is the shortest.
 #[tactic(auto, using(crate::proofs::Sharing::part_cases))]
@@ -82,24 +84,23 @@ impl Group<'_> {
         self.needs.iter().copied().fold(top, u32::min)
     }
 
-    // The level search: from a level down by one, to where the running sum reaches or passes the bitpool. It never passes the floor, the least
-    // need minus sixteen, where each need has 16 bits.
-    // Kept: recursion, as the search is defined: it goes down by one, and ends in one of three ways.
-    fn find_level(&self, floor: u32, level: u32, count: u32) -> u32
-        requires { count ≤ self.now.bitpool }
-        ensures { lowered result ≡ descend (level - floor) (map lowered self.now.needs.now) self.now.bitpool (lowered level) count }
+    // The level search: from the top level down by one, to where the running sum of bits reaches or passes the bitpool, and
+    // one lower still where it is exact. It never passes the floor, the least need minus sixteen, where each need has 16 bits.
+    fn find_level(&self, floor: u32, top: u32) -> u32
+        requires { floor < top }
+        ensures { lowered result ≡ descend (top - floor) (map lowered self.now.needs.now) self.now.bitpool (lowered top) 0 }
     {
-        if level <= floor {
-            return level;
+        let mut count = 0;
+        for level in (floor + 1..=top).rev() {
+            count += self.level_bits(level);
+            if count == self.bitpool {
+                return level - 1;
+            }
+            if self.bitpool < count {
+                return level;
+            }
         }
-        let reached = count + self.level_bits(level);
-        if reached < self.bitpool {
-            self.find_level(floor, level - 1, reached)
-        } else if reached == self.bitpool {
-            level - 1
-        } else {
-            level
-        }
+        floor
     }
 
     // The level that the search ends at.
@@ -108,7 +109,7 @@ impl Group<'_> {
     {
         let top = self.greatest_need();
         let low = self.least_need(top);
-        self.find_level(low - 16, top, 0)
+        self.find_level(low - 16, top)
     }
 
     // The base bits with one round of gains, in order; zeros stand behind them.
@@ -125,18 +126,6 @@ impl Group<'_> {
         }
         bits
     }
-}
-
-// The sum of a group's bits.
-// Kept: a `for` in place of `map` and `sum`: of that chain the clause `fits`, that no sum wraps, stayed open.
-fn total_bits(bits: [u8; 16]) -> u32
-    ensures { result ≡ sum_by (λ b. b) bits }
-{
-    let mut total = 0;
-    for share in bits {
-        total += u32::from(share);
-    }
-    total
 }
 
 // The place of the first with fewer than 16.
@@ -168,7 +157,7 @@ pub fn share_bits(needs: &[u32], bitpool: u32) -> [u8; 16]
     let level = group.level_of();
     let left = bitpool.saturating_sub(group.base_total(level));
     let bits = group.round_bits(level, left);
-    if total_bits(bits) < bitpool {
+    if sum_of(&bits) < bitpool {
         last_bit(bits, needs.len())
     } else {
         bits

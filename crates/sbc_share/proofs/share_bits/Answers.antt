@@ -40,12 +40,12 @@ module _ (ns : List ℕ) (bitpool at : ℕ) (is : lowered at ≡ level_of (map l
     whole : bitpool ≤ sum_by (λ b. b) out → out ≡ share (map lowered ns) bitpool ++ zeros
     whole h = padded ∙ rw (without-last ns bitpool at is (omega (arith, total))) refl
 
-pub returns-then-total_bits-bitpool : goal.returns-then-total_bits-bitpool
-returns-then-total_bits-bitpool c =
+pub returns-then-sum_of-bitpool : goal.returns-then-sum_of-bitpool
+returns-then-sum_of-bitpool c =
     let padded = rw (c.saturating_sub-left.ensures, c.base_total.ensures, ← heights_sum base_bits c.level_of-level.result c.args.needs.now) at c.round_bits-bits.ensures in
     c.last_bit.ensures ∙ less _ _ _ c.level_of-level.ensures _ padded (omega arith)
 
-pub returns-else-total_bits-bitpool : goal.returns-else-total_bits-bitpool
-returns-else-total_bits-bitpool c =
+pub returns-else-sum_of-bitpool : goal.returns-else-sum_of-bitpool
+returns-else-sum_of-bitpool c =
     let padded = rw (c.saturating_sub-left.ensures, c.base_total.ensures, ← heights_sum base_bits c.level_of-level.result c.args.needs.now) at c.round_bits-bits.ensures in
     whole _ _ _ c.level_of-level.ensures _ padded (omega arith)

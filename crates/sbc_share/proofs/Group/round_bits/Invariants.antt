@@ -1,5 +1,5 @@
--- `sbc_share::Group::round_bits` meets its contract. The invariant: the bits written and the round of the needs to come are the whole round, and
--- zeros stand behind.
+-- `sbc_share::Group::round_bits` meets its contract. The invariant: the bits written and the round of the needs to come
+-- are the whole round, and zeros stand behind.
 -- Assumes nothing.
 use mathlib.Core.Path.{◌≡◌}
 use mathlib.Core.List.{◌++◌}
