@@ -1,36 +1,24 @@
-// A frame's bytes to the subband samples of its channels, in an array of 128 for each channel, eight places a block.
+// A frame's bytes to the subband samples of its channels.
 #![tactic(auto)]
 
-ghost use Rattle.std.specs.Prelude.{◌≡◌, ◌++◌, ℕ, ◌+◌, ◌-◌, ◌*◌, ◌/◌, ◌^◌, ◌≤◌, ◌<◌, length, take, drop, replicate, nat_abs, ◌+ℤ◌, ◌-ℤ◌};
+ghost use Rattle.std.specs.Prelude.{◌≡◌, ◌++◌, ℕ, ◌+◌, ◌-◌, ◌*◌, ◌^◌, ◌≤◌, ◌<◌};
+ghost use Rattle.std.specs.Prelude.{[], length, take, drop, get_or, replicate, nat_abs};
 ghost use Rattle.laws.specs.Bits.{number_of, bits_of_bytes};
-ghost use Rattle.laws.specs.Lists.{total};
+ghost use Rattle.laws.specs.Lists.{build, total};
 ghost use Rattle.bits.specs.Fields.{number_at};
-ghost use Rattle.sbc_parameters.specs.Sizes.{frame_length};
 ghost use Rattle.sbc_frame.specs.Layout.{unpack};
-ghost use Rattle.sbc_frame.specs.Arrays.{with_subband, sample_in, samples_array, entry, Small, with_flagged};
-ghost use Rattle.sbc_read.specs.Reading.{row_at, flag_row, left_factors, right_factors, value_of, channel_values, channel_array};
+ghost use Rattle.sbc_frame.specs.Encoding.{sample_at};
+ghost use Rattle.sbc_frame.specs.Arrays.{with_subband, with_flagged, no_samples, samples_array, rows_of, entry, Small};
+ghost use Rattle.sbc_read.specs.Reading.{row_at, flag_row, factor_row, value_of, channel_values, read_samples, restored_at, channel_array};
 
+use laws::{power_of_two, sum_of};
 use sbc_allocation::allocate;
-use sbc_frame::{BlockCount, Factors, Quantization};
+use sbc_frame::{BlockCount, Blocks, Factors, FrameBytes, Quantization, Samples};
 use sbc_parameters::AcceptedSet;
 use sbc_quantizer::Dequantizer;
 
-// The subband samples of both channels, with zeros behind a block's samples and behind the blocks; the second's are 0 where a frame has one.
-#[derive(Clone, Copy)]
-pub struct Samples {
-    pub left: [i32; 128],
-    pub right: [i32; 128],
-}
-
-// The join flags of a frame, by subband with zeros behind them, and its scale factors.
-#[derive(Clone, Copy)]
-struct Side {
-    flags: [u8; 8],
-    factors: Factors,
-}
-
-// Where the values of a channel stand, and how they are quantized: the bit of the first value, the bits of a block, and how many blocks there
-// are. All of them stand in a frame that has zeros behind it.
+// Where the values of a channel stand, and how they are quantized: the bit of the first value, the bits of a block, and how many
+// blocks there are. All of them stand in a frame that has zeros behind it.
 #[derive(Clone, Copy)]
 struct Values {
     quantization: Quantization,
@@ -38,7 +26,6 @@ struct Values {
     block_bits: usize,
     blocks: BlockCount,
     ghost some_blocks: { 0 < blocks.count },
-    ghost few_bits: { block_bits ≤ 510 },
     ghost room: { (b : ℕ) → b < blocks.count → position + b * block_bits + total 8 (entry quantization.widths) ≤ 4192 },
 }
 
@@ -61,160 +48,146 @@ fn word(bytes: &[u8; 528], at: usize) -> u32
 }
 
 // The number that `count` bits from bit `position` on write. They stand in four bytes.
-fn number_at(bytes: &[u8; 528], position: usize, count: u32) -> u32
+// Kept: beside `bits::read_at`, which says the same of any bytes: a read of 8 bits is 41 instructions there and 14 here, and by it
+// decode would go from 0.57 to about 0.73 of the Rust's (docs/DECISIONS.md, 44).
+fn number_at(bytes: &[u8; 528], position: usize, count: u8) -> u32
     requires { (0 < count) × (count ≤ 16) × (position ≤ 4192) }
     ensures { (result ≡ number_at bytes.now position count) × (result < 2 ^ count) }
 {
+    let count = u32::from(count);
     let low = 32 - (position % 8) as u32 - count;
-    (word(bytes, position / 8) >> low) % laws::power_of_two(count)
+    (word(bytes, position / 8) >> low) % power_of_two(count)
 }
 
 // `count` numbers of `width` bits each, end to end from `position` on.
-fn read_row(bytes: &[u8; 528], position: usize, width: u32, count: usize) -> [u8; 8]
+fn read_row(bytes: &[u8; 528], position: usize, width: u8, count: usize) -> [u8; 8]
     requires { (0 < width) × (width ≤ 4) × (count ≤ 8) × (position + count * width ≤ 4192) }
     ensures { result ≡ row_at bytes.now position width count }
 {
-    let mut row = [0u8; 8];
-    let mut at = position;
+    let mut row = [0; 8];
     for s in 0..count {
-        row[s] = number_at(bytes, at, width) as u8;
-        at += width as usize;
+        row[s] = number_at(bytes, position + s * usize::from(width), width) as u8;
     }
     row
 }
 
 impl Values {
     // The samples of one subband, whose first value stands at bit `at`.
-    fn read_subband(&self, samples: &mut [i32; 128], bytes: &[u8; 528], subband: usize, at: usize)
+    fn read_subband(&self, samples: &mut Blocks, bytes: &[u8; 528], subband: usize, at: usize)
         requires subband { subband < 8 }
         requires some { 0 < entry self.now.quantization.widths subband }
         requires place { at ≡ self.now.position + total subband (entry self.now.quantization.widths) }
-        ensures { samples.new ≡ with_subband self.now.blocks.count subband (value_of bytes.now at self.now.block_bits (entry self.now.quantization.widths subband) (entry self.now.quantization.factors subband)) samples.old }
+        ensures { let q = self.now.quantization in
+            samples.new.rows
+            ≡ with_subband self.now.blocks.count subband
+            (value_of bytes.now at self.now.block_bits (entry q.widths subband) (entry q.factors subband)) samples.old.rows }
     {
         let width = self.quantization.widths[subband];
-        let step = self.block_bits;
         let dequantizer = Dequantizer::new(width, self.quantization.factors[subband]);
-        let mut next = at;
         for block in 0..self.blocks.count {
-            samples[8 * block + subband] = dequantizer.apply(number_at(bytes, next, width as u32));
-            next += step;
+            let value = number_at(bytes, at + block * self.block_bits, width);
+            samples.rows[block][subband] = dequantizer.apply(value);
         }
     }
 
-    // The samples of the channel. A subband of 0 bits has no values, and its samples are 0.
-    fn read(&self, bytes: &[u8; 528]) -> [i32; 128]
-        ensures { result ≡ samples_array self.now.blocks.count (channel_values bytes.now self.now.quantization.widths self.now.quantization.factors self.now.position self.now.block_bits self.now.blocks.count) }
+    // The samples of the channel, in place of zeros. A subband of 0 bits has no values, and its samples stay 0.
+    fn read(&self, samples: &mut Blocks, bytes: &[u8; 528])
+        requires { samples.old.rows ≡ no_samples }
+        ensures { let q = self.now.quantization in let n = self.now.blocks.count in
+            samples.new.rows ≡ samples_array n (channel_values bytes.now q.widths q.factors self.now.position self.now.block_bits n) }
     {
-        let mut samples = [0; 128];
         let mut at = self.position;
-        for subband in 0..8 {
-            let width = self.quantization.widths[subband];
-            if width != 0 {
-                self.read_subband(&mut samples, bytes, subband, at);
-                at += width as usize;
+        for (subband, width) in self.quantization.widths.iter().enumerate() {
+            if *width != 0 {
+                self.read_subband(samples, bytes, subband, at);
+                at += usize::from(*width);
             }
         }
-        samples
     }
 }
 
-// The sum of a row.
-fn row_total(row: &[u8; 8]) -> usize
-    ensures { (result ≡ total 8 (entry row.now)) × (result ≤ 2040) }
+// The scale factors of a frame, whose bytes have zeros behind them.
+fn read_factors(accepted: AcceptedSet, bytes: &[u8; 528]) -> Factors
+    ensures { result.rows ≡ build 2 (factor_row accepted.set bytes.now) }
 {
-    let mut sum = 0;
-    for entry in row {
-        sum += *entry as usize;
+    let set = accepted.set;
+    let first = 32 + set.join_count();
+    let subbands = usize::from(set.subbands);
+    let mut rows = [[0; 8]; 2];
+    for channel in 0..usize::from(set.channels()) {
+        rows[channel] = read_row(bytes, first + 4 * subbands * channel, 4, subbands);
     }
-    sum
+    Factors { rows }
 }
 
-// Sum and difference of one subband, in place of left and right.
-fn join_subband(left: &mut [i32; 128], right: &mut [i32; 128], subband: usize, blocks: BlockCount)
-    requires { (subband < 8) × ((b : ℕ) → b < blocks.count → (nat_abs (sample_in left.old b subband) ≤ 2 ^ 27) × (nat_abs (sample_in right.old b subband) ≤ 2 ^ 27)) }
-    ensures { (left.new ≡ with_subband blocks.count subband (λ b. sample_in left.old b subband +ℤ sample_in right.old b subband) left.old) × (right.new ≡ with_subband blocks.count subband (λ b. sample_in left.old b subband -ℤ sample_in right.old b subband) right.old) }
+// What is read of the channels of a frame, whose bytes have zeros behind them. In a block the values of the second channel stand
+// behind the first's.
+fn read_channels(accepted: AcceptedSet, bytes: &[u8; 528], factors: &Factors) -> [Blocks; 2]
+    ensures { (c : ℕ) → c < 2 → rows_of result c ≡ read_samples accepted.set bytes.now factors.now.rows c }
+{
+    let set = accepted.set;
+    let widths = allocate(set, factors.rows);
+    let mut channels = [Blocks { rows: [[0; 8]; 16] }; 2];
+    let mut position = 32 + set.side_bits();
+    for channel in 0..2 {
+        let values = Values {
+            quantization: Quantization {
+                widths: widths[channel],
+                factors: factors.rows[channel],
+            },
+            position,
+            block_bits: set.block_bits(),
+            blocks: BlockCount::from(accepted),
+        };
+        values.read(&mut channels[channel], bytes);
+        position += sum_of(&widths[channel]) as usize;
+    }
+    channels
+}
+
+// Sum and difference of one subband, in place of its samples.
+fn join_subband(channels: &mut [Blocks; 2], subband: usize, blocks: BlockCount)
+    requires low { subband < 8 }
+    requires long { (c : ℕ) → c < 2 → length (rows_of channels.old c) ≡ 16 }
+    requires small { (c b : ℕ) → c < 2 → b < blocks.count → nat_abs (sample_at (rows_of channels.old c) b subband) ≤ 2 ^ 27 }
+    ensures { (c : ℕ) → c < 2
+        → rows_of channels.new c
+        ≡ with_subband blocks.count subband (λ b. restored_at channels.old c b subband) (rows_of channels.old c) }
 {
     for block in 0..blocks.count {
-        let at = 8 * block + subband;
-        let l = left[at];
-        let r = right[at];
-        left[at] = l + r;
-        right[at] = l - r;
+        let left = channels[0].rows[block][subband];
+        let right = channels[1].rows[block][subband];
+        channels[0].rows[block][subband] = left + right;
+        channels[1].rows[block][subband] = left - right;
     }
 }
 
 // Sum and difference for every join flag that is set.
-fn join(left: &mut [i32; 128], right: &mut [i32; 128], flags: &[u8; 8], blocks: BlockCount)
-    requires { (Small blocks.count (2 ^ 27) left.old) × (Small blocks.count (2 ^ 27) right.old) }
-    ensures left { left.new ≡ with_flagged blocks.count flags.now (λ b s. sample_in left.old b s +ℤ sample_in right.old b s) left.old }
-    ensures right { right.new ≡ with_flagged blocks.count flags.now (λ b s. sample_in left.old b s -ℤ sample_in right.old b s) right.old }
+fn join(channels: &mut [Blocks; 2], flags: &[u8; 8], blocks: BlockCount)
+    requires long { (c : ℕ) → c < 2 → length (rows_of channels.old c) ≡ 16 }
+    requires eight { (c b : ℕ) → c < 2 → b < blocks.count → length (get_or (rows_of channels.old c) b []) ≡ 8 }
+    requires small { (c : ℕ) → c < 2 → Small blocks.count (2 ^ 27) (rows_of channels.old c) }
+    ensures { (c : ℕ) → c < 2
+        → rows_of channels.new c ≡ with_flagged blocks.count flags.now (restored_at channels.old c) (rows_of channels.old c) }
 {
-    for subband in 0..8 {
-        if flags[subband] == 1 {
-            join_subband(left, right, subband, blocks);
+    for (subband, flag) in flags.iter().enumerate() {
+        if *flag == 1 {
+            join_subband(channels, subband, blocks);
         }
     }
 }
 
-// The join flags and scale factors of a frame, whose bytes have zeros behind them.
-fn read_side(accepted: AcceptedSet, bytes: &[u8; 528]) -> Side
-    ensures flags { result.flags ≡ flag_row accepted.set bytes.now }
-    ensures left { result.factors.left ≡ left_factors accepted.set bytes.now }
-    ensures right { result.factors.right ≡ right_factors accepted.set bytes.now }
-{
-    let set = accepted.set;
-    let joins = set.join_count();
-    let subbands = set.subbands as usize;
-    let others = subbands * (set.channels() as usize - 1);
-    Side {
-        flags: read_row(bytes, 32, 1, joins),
-        factors: Factors {
-            left: read_row(bytes, 32 + joins, 4, subbands),
-            right: read_row(bytes, 32 + joins + 4 * subbands, 4, others),
-        },
-    }
-}
-
 // The samples of a frame's channels. Where a frame has one channel, the second has no scale factors, and so no bits.
-pub fn read_frame(accepted: AcceptedSet, frame: &[u8]) -> Samples
-    requires { length frame.now ≡ frame_length accepted.set }
-    ensures left { result.left ≡ channel_array accepted.set (unpack accepted.set frame.now) 0 }
-    ensures right { result.right ≡ channel_array accepted.set (unpack accepted.set frame.now) 1 }
-    ensures bounds { (Small accepted.set.blocks (2 ^ 28) result.left) × (Small accepted.set.blocks (2 ^ 28) result.right) }
+pub fn read_frame(frame: FrameBytes) -> Samples
+    ensures accepted { result.accepted ≡ frame.entry.accepted }
+    ensures channels { let p = frame.entry.accepted.set in
+        (c : ℕ) → c < 2 → rows_of result.channels c ≡ channel_array p (unpack p frame.entry.bytes.now) c }
 {
-    let set = accepted.set;
-    let bytes = padded(frame);
-    let side = read_side(accepted, &bytes);
-    let factors = side.factors;
-    let left_factors = factors.left;
-    let right_factors = factors.right;
-    let widths = allocate(set, [left_factors, right_factors]);
-    let left_widths = widths[0];
-    let first = 32 + set.side_bits();
-    let second = first + row_total(&left_widths);
-    let block_bits = set.block_bits();
-    let blocks = BlockCount::of(accepted);
-    let left_values = Values {
-        quantization: Quantization {
-            widths: left_widths,
-            factors: left_factors,
-        },
-        position: first,
-        block_bits,
-        blocks,
-    };
-    let right_values = Values {
-        quantization: Quantization {
-            widths: widths[1],
-            factors: right_factors,
-        },
-        position: second,
-        block_bits,
-        blocks,
-    };
-    let mut left = left_values.read(&bytes);
-    let mut right = right_values.read(&bytes);
-    let flags = side.flags;
-    join(&mut left, &mut right, &flags, blocks);
-    Samples { left, right }
+    let accepted = frame.accepted;
+    let bytes = padded(frame.bytes);
+    let flags = read_row(&bytes, 32, 1, accepted.set.join_count());
+    let factors = read_factors(accepted, &bytes);
+    let mut channels = read_channels(accepted, &bytes, &factors);
+    join(&mut channels, &flags, BlockCount::from(accepted));
+    Samples { accepted, channels }
 }
