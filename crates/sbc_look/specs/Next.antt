@@ -1,4 +1,5 @@
--- What a decode call does with what stands in front of its input, by the tests in document 01's order: 3 bytes, header, length, output, checksum.
+-- What a decode call does with what stands in front of its input, by the tests in document 01's order: 3 bytes, header,
+-- length, output, checksum.
 -- From document 01, "Given back".
 use Rattle.std.specs.Prelude.{ℕ, Bool, ◌&&◌, not, List, eqb, ltb, length, if◌then◌else◌, Option, None, Some, Result, Ok, Err}
 use Rattle.codec.specs.Errors.{error_number}

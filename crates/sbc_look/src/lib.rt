@@ -1,4 +1,5 @@
-// A look at the input of a decoder: whether a whole frame stands in front, and whether its byte 3 holds its checksum; and what a decode call does next.
+// A look at the input of a decoder: whether a whole frame stands in front, and whether its byte 3 holds its checksum; and
+// what a decode call does next.
 // No state, no output.
 #![tactic(auto)]
 
@@ -11,7 +12,8 @@ use codec::Error;
 use sbc_parameters::{AcceptedSet, SbcParameters};
 
 // A whole frame in front of the input, and whether its byte 3 holds its checksum.
-// Kept: a frame whose checksum differs is whole all the same, and is asked for room before it is refused, so that `good` is no case of a refusal.
+// Kept: a frame whose checksum differs is whole all the same, and is asked for room before it is refused, so that `good`
+// is no case of a refusal.
 #[derive(Clone, Copy)]
 pub struct WholeFrame {
     pub accepted: AcceptedSet,
@@ -44,8 +46,8 @@ fn look_parsed(accepted: AcceptedSet, input: &[u8]) -> Result<WholeFrame, Error>
     })
 }
 
-// What a decode call does next, with room for so many samples: 3 bytes, header, length, output, checksum, in this order. It plays a frame with the
-// parameters that are given, or, where there are none, nothing.
+// What a decode call does next, with room for so many samples: 3 bytes, header, length, output, checksum, in this order.
+// It plays a frame with the parameters that are given, or, where there are none, nothing.
 #[tactic(auto, unfolding(crate::specs::Next::next, crate::specs::Next::next_at))]
 pub fn decide(input: &[u8], room: usize, finishing: bool) -> Result<Option<AcceptedSet>, Error>
     ensures { told_next result ≡ next finishing input.now room }

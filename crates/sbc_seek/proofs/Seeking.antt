@@ -1,5 +1,5 @@
--- The frame that a seek resumes from does not begin behind the position sought, and at most 9 blocks and a frame before it. And the cases of a
--- request in a stream of frames.
+-- The frame that a seek resumes from does not begin behind the position sought, and at most 9 blocks and a frame before
+-- it. And the cases of a request in a stream of frames.
 -- Assumes nothing.
 use Prim.Native.Nat.{ℕ, ◌+◌, ◌-◌, ◌*◌, ◌/◌, ◌^◌, ◌≤◌, ◌<◌}
 use mathlib.Core.Path.{◌≡◌, sym, ap}

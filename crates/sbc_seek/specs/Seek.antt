@@ -1,4 +1,5 @@
--- Where decoding resumes for a position, under the parameters of the last accepted frame. Positions and the skip count samples of one channel.
+-- Where decoding resumes for a position, under the parameters of the last accepted frame. Positions and the skip count
+-- samples of one channel.
 -- From document 01, "Calls" and "Given back".
 use Rattle.std.specs.Prelude.{ℕ, ◌-◌, ◌*◌, ◌/◌, ◌^◌, ◌&&◌, eqb, ltb, if◌then◌else◌, Option, None, Some}
 use Rattle.laws.specs.Answers.{Told, gives, refuses}

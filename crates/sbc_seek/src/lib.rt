@@ -1,5 +1,5 @@
-// Where decoding resumes for a position: a byte offset of the stream, and the samples that the decoder then drops. No state: what it depends on is
-// the position and the parameters of the last accepted frame.
+// Where decoding resumes for a position: a byte offset of the stream, and the samples that the decoder then drops. No
+// state: what it depends on is the position and the parameters of the last accepted frame.
 #![tactic(auto)]
 
 ghost use Rattle.std.specs.Prelude.{◌≡◌};
@@ -19,9 +19,10 @@ pub struct SeekRequest {
     pub skip_frames: u32,
 }
 
-// Where to resume for a position, counted in samples of one channel from the start of the audio; `last` has the parameters of the last accepted
-// frame, where there was one. The offset is counted from the start of the stream, as if every frame had the parameters of the last one; decoding
-// resumes 9 blocks early, to fill the filterbank, and drops them.
+// Where to resume for a position, counted in samples of one channel from the start of the audio; `last` has the
+// parameters of the last accepted frame, where there was one. The offset is counted from the start of the stream, as if
+// every frame had the parameters of the last one; decoding resumes 9 blocks early, to fill the filterbank, and drops
+// them.
 #[tactic(auto, unfolding(crate::specs::Seek::seek_request))]
 pub fn seek_request(last: Option<SbcParameters>, position: u64) -> Result<SeekRequest, Error>
     ensures { told result ≡ seek_request last position }
@@ -51,7 +52,7 @@ fn first_request(position: u64) -> Result<SeekRequest, Error>
 fn request_in(parameters: SbcParameters, position: u64) -> Result<SeekRequest, Error>
     ensures { told result ≡ request_in parameters position }
 {
-    let accepted = parameters.accepted()?;
+    let accepted = AcceptedSet::try_from(parameters)?;
     accepted_request(accepted, position)
 }
 
