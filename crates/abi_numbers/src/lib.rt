@@ -72,6 +72,7 @@ impl ParameterNumbers {
     }
 
     // The parameters that the numbers stand for.
+    // Kept: no From, as at a mode's number (sbc_modes): numbers that are none of a mode give one too.
     #[tactic(auto, unfolding(crate::specs::Numbers::parameters_in))]
     pub fn parameters(self) -> SbcParameters
         ensures { result ≡ parameters_in self }
