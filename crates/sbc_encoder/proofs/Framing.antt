@@ -8,10 +8,12 @@ use native.Mathlib.Numerals.{add-one}
 use native.Mathlib.Omega.{arith}
 use lib.IntN.{ℤ}
 use lib.ListN.{length, drop}
+use Rattle.std.specs.Prelude.{map}
 use lib.Seq.{take_at, drop_at}
 use borrow.Rule.Slice.PartMut.{put_mid, Post-is}
 use Rattle.sbc_parameters.specs.Sizes.{frame_length, frame_samples}
 use Rattle.sbc_parameters.specs.declared.SbcParameters.{SbcParameters}
+use Rattle.sbc_filterbank.specs.declared.analysis.Analysis.{Analysis}
 use Rattle.sbc_frame.specs.Fields.{Fields}
 use Rattle.sbc_frame.specs.Layout.{pack}
 use Rattle.sbc_frame.specs.Encoding.{encode_fields, analysis_histories}
@@ -35,29 +37,34 @@ put-behind xs ys zs a e l h =
     ∙ ap (λ v. xs ++ (zs ++ v)) (Post-is a e ys h)
     ∙ sym (append_assoc xs zs (drop e ys))
 
-module _ (p : SbcParameters) (left₀ right₀ input : List ℤ) (output₀ : List ℕ) where
+-- the histories with what stands in them
+wrapped : (hs : List Analysis) → map (λ h. record { history = h }) (map (λ a. a.history) hs) ≡ hs
+wrapped [] = refl
+wrapped (a ∷ hs) = ap (λ (l : List Analysis). a ∷ l) (wrapped hs)
+
+module _ (p : SbcParameters) (histories₀ : List Analysis) (input : List ℤ) (output₀ : List ℕ) where
   -- the encoder at the start
   abbrev first : SbcEncoder
-  first = encoder_with p left₀ right₀
+  first = encoder_with p histories₀
 
   -- the invariant after i frames: the histories are the encoder's, and the frames stand in front of what the output held
-  pub record Framing (left right : List ℤ) (output : List ℕ) (i : ℕ) : Type 0 where
-    pub encoder : encoder_with p left right ≡ encoder_after i first input
+  pub record Framing (hs : List Analysis) (output : List ℕ) (i : ℕ) : Type 0 where
+    pub encoder : encoder_with p hs ≡ encoder_after i first input
     pub written : output ≡ pack_all p (encoded_frames i first input) ++ drop (i * frame_length p) output₀
 
   -- no frame is written yet
-  pub no_frame : Framing left₀ right₀ output₀ 0
+  pub no_frame : Framing histories₀ output₀ 0
   unfolding encoder_after encoded_frames pack_all
   no_frame = record { encoder = refl; written = ap (λ k. drop k output₀) (sym (zero-mul (frame_length p))) }
 
-  module _ {left right : List ℤ} {output : List ℕ} {i : ℕ} (t : Framing left right output i) where
+  module _ {hs : List Analysis} {output : List ℕ} {i : ℕ} (t : Framing hs output i) where
     -- one more frame, from the samples behind i frames
-    pub next-frame : (left' right' : List ℤ) (frame : List ℕ)
-        → left' ∷ right' ∷ [] ≡ analysis_histories p (left ∷ right ∷ []) (drop (i * frame_samples p) input)
-        → frame ≡ pack p (encode_fields p (left ∷ right ∷ []) (drop (i * frame_samples p) input))
-        → Framing left' right' (put_mid (i * frame_length p) ((i + 1) * frame_length p - i * frame_length p) output frame) (i + 1)
+    pub next-frame : (hs' : List Analysis) (frame : List ℕ)
+        → map (λ a. a.history) hs' ≡ analysis_histories p (map (λ a. a.history) hs) (drop (i * frame_samples p) input)
+        → frame ≡ pack p (encode_fields p (map (λ a. a.history) hs) (drop (i * frame_samples p) input))
+        → Framing hs' (put_mid (i * frame_length p) ((i + 1) * frame_length p - i * frame_length p) output frame) (i + 1)
     unfolding histories with_histories next_encoder
-    next-frame left' right' frame hears bytes =
+    next-frame hs' frame hears bytes =
         let pcm = drop (i * frame_samples p) input in
         let more : pack_all p (encoded_frames i first input) ++ frame ≡ pack_all p (encoded_frames (i + 1) first input) =
         ap (λ l. pack_all p (encoded_frames i first input) ++ l) (bytes ∙ ap (λ e. pack p (encode_fields p (histories e) pcm)) t.encoder)
@@ -65,7 +72,8 @@ module _ (p : SbcParameters) (left₀ right₀ input : List ℤ) (output₀ : Li
         ∙ ap (pack_all p) (sym (frames-snoc i first input) ∙ ap (λ n. encoded_frames n first input) (sym (add-one i))) in
         record {
           encoder =
-              ap (with_histories (encoder_with p left right)) hears
+              ap (encoder_with p) (sym (wrapped hs'))
+              ∙ ap (with_histories (encoder_with p hs)) hears
               ∙ ap (λ e. next_encoder e pcm) t.encoder
               ∙ sym (encoder-snoc i first input)
               ∙ ap (λ n. encoder_after n first input) (sym (add-one i));

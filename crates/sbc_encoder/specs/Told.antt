@@ -1,9 +1,10 @@
 -- What the code of the calls and of their parts gives back and leaves, in the definitions' terms, with document 01's numbers ("Given back").
-use Rattle.std.specs.Prelude.{List, [], ◌∷◌, ℕ, ℤ, Result}
+use Rattle.std.specs.Prelude.{List, ℕ, Result}
 use Rattle.codec.specs.Answers.{told}
 use Rattle.codec.specs.declared.Error.{Error}
 use Rattle.codec.specs.declared.Progress.{Progress}
 use Rattle.sbc_parameters.specs.declared.SbcParameters.{SbcParameters}
+use Rattle.sbc_filterbank.specs.declared.analysis.Analysis.{Analysis}
 use Rattle.sbc_encoder.specs.Encode.{Encoded}
 use Rattle.sbc_encoder.specs.declared.SbcEncoder.{SbcEncoder}
 
@@ -12,5 +13,5 @@ abbrev pub told_encoded : Result Progress Error → SbcEncoder → List ℕ → 
 told_encoded r e output = record { answer = told r; encoder = e; output = output }
 
 -- an encoder with these histories
-abbrev pub encoder_with : SbcParameters → List ℤ → List ℤ → SbcEncoder
-encoder_with p left right = record { parameters = p; analysis = record { history = left } ∷ record { history = right } ∷ [] }
+abbrev pub encoder_with : SbcParameters → List Analysis → SbcEncoder
+encoder_with p analysis = record { parameters = p; analysis = analysis }

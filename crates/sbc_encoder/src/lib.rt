@@ -9,13 +9,8 @@ ghost use Rattle.sbc_encoder.specs.Encode.{encoder_of, new_encoder, reset_encode
 
 use codec::{Error, Progress};
 use sbc_encode_frame::encode_frame;
+pub use sbc_filterbank::Analysis;
 use sbc_parameters::{AcceptedSet, SbcParameters};
-
-// The last samples of one channel, newest first.
-#[derive(Clone, Copy)]
-pub struct Analysis {
-    pub history: [i16; 80],
-}
 
 // An SBC and mSBC encoder.
 #[derive(Clone, Copy)]
@@ -31,7 +26,7 @@ impl SbcEncoder {
     pub fn new(parameters: SbcParameters) -> Result<SbcEncoder, Error>
         ensures { told result ≡ new_encoder parameters }
     {
-        parameters.accepted()?;
+        AcceptedSet::try_from(parameters)?;
         Ok(SbcEncoder::silent(parameters))
     }
 
@@ -69,24 +64,14 @@ impl SbcEncoder {
     pub fn encode(&mut self, input: &[i16], output: &mut [u8]) -> Result<Progress, Error>
         ensures { told_encoded result self.new output.new ≡ encode self.old input.now output.old }
     {
-        let accepted = self.parameters.accepted()?;
+        let accepted = AcceptedSet::try_from(self.parameters)?;
         let samples = accepted.set.frame_samples();
         let length = accepted.set.frame_length();
         if output.len() < length {
             return Err(Error::BufferTooSmall);
         }
         let count = (input.len() / samples).min(output.len() / length);
-        // Kept: `let [left, right] = &mut self.analysis` was tried, and the check does not cover it; two histories are copied out and stored.
-        let [mut left, mut right] = self.analysis;
-        encode_frames(
-            accepted,
-            &mut left.history,
-            &mut right.history,
-            input,
-            output,
-            count,
-        );
-        self.analysis = [left, right];
+        encode_frames(accepted, &mut self.analysis, input, output, count);
         Ok(Progress {
             consumed: count * samples,
             produced: count * length,
@@ -95,19 +80,19 @@ impl SbcEncoder {
 }
 
 // So many frames, one after the other. The histories are altered where the caller has them.
-// Kept: a frame is encoded from the front of the whole rest, as the definition says; chunks would cut the rest, and a law would have to undo it.
+// Kept: a frame is encoded from the front of the whole rest, as the definition says; chunks would cut the rest, and a law would have to
+// undo it.
 fn encode_frames(
     accepted: AcceptedSet,
-    left: &mut [i16; 80],
-    right: &mut [i16; 80],
+    histories: &mut [Analysis; 2],
     input: &[i16],
     output: &mut [u8],
     count: usize,
 )
     requires { (count * frame_samples accepted.set ≤ length input.now) × (count * frame_length accepted.set ≤ length output.old) }
     ensures encoder { let p = accepted.set in
-        encoder_with p left.new right.new ≡ encoder_after count (encoder_with p left.old right.old) input.now }
-    ensures output { let p = accepted.set in let first = encoder_with p left.old right.old in
+        encoder_with p histories.new ≡ encoder_after count (encoder_with p histories.old) input.now }
+    ensures output { let p = accepted.set in let first = encoder_with p histories.old in
         output.new ≡ pack_all p (encoded_frames count first input.now) ++ drop (count * frame_length p) output.old }
 {
     let samples = accepted.set.frame_samples();
@@ -115,8 +100,7 @@ fn encode_frames(
     for i in 0..count {
         encode_frame(
             accepted,
-            left,
-            right,
+            histories,
             &input[i * samples..],
             &mut output[i * length..(i + 1) * length],
         );

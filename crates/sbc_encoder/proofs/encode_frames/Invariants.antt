@@ -6,7 +6,7 @@ use Rattle.sbc_encoder.proofs.Framing.{Framing}
 use Rattle.sbc_encoder.proofs.encode_frames.Given as goal
 
 abbrev pub invariant-loop-i : goal.invariant-loop-i
-invariant-loop-i l = (l.i ≤ l.count) × Framing l.accepted.set l.initial.left l.initial.right l.input l.initial.output l.left l.right l.output l.i
+invariant-loop-i l = (l.i ≤ l.count) × Framing l.accepted.set l.initial.histories l.input l.initial.output l.histories l.output l.i
 
 abbrev pub decreases-loop-i : goal.decreases-loop-i
 decreases-loop-i l = l.count - l.i

@@ -1,39 +1,25 @@
 -- `SbcEncoder::encode` meets its contract where its parameters are accepted and the output has a frame: the answer is that of the frames that both buffers hold.
 -- Assumes nothing.
 use Prim.Native.Nat.{ℕ, ◌*◌, ◌/◌, ◌≤◌, min}
-use mathlib.Core.Path.{◌≡◌, refl, sym, ap, ap₂, subst, subst₂, ◌∙◌}
+use mathlib.Core.Path.{◌≡◌, sym, ap, ap₂, subst, ◌∙◌}
 use mathlib.Core.Bool.{true}
-use mathlib.Core.List.{List, [], ◌++◌}
+use mathlib.Core.List.{List, ◌++◌}
 use native.Mathlib.Omega.{arith}
 use lib.IntN.{ℤ}
-use lib.ListN.{length, get_or, drop}
+use lib.ListN.{length, drop}
 use borrow.Author.Tests.{le-ltb}
 use Rattle.laws.specs.Answers.{gives}
-use Rattle.laws.specs.Lists.{collect, build}
-use Rattle.laws.proofs.Lists.{build-is}
 use Rattle.sbc_parameters.specs.Parameters.{accepted}
 use Rattle.sbc_parameters.specs.Sizes.{frame_length, frame_samples}
 use Rattle.sbc_parameters.proofs.Accepted.{frame-length-range, frame-samples-range}
 use Rattle.codec.specs.Answers.{whole_frames, progress_of}
 use Rattle.sbc_encoder.specs.Encode.{encoder_after, encoded_frames, pack_all, encode_frames, encode}
 use Rattle.sbc_encoder.specs.Told.{encoder_with}
-use Rattle.sbc_encoder.specs.declared.Analysis.{Analysis}
+use Rattle.sbc_filterbank.specs.declared.analysis.Analysis.{Analysis}
 use Rattle.sbc_encoder.specs.declared.SbcEncoder.{SbcEncoder}
 use Rattle.codec.proofs.Fitting.{fits_in}
 use Rattle.sbc_encoder.proofs.Writing.{frames, frames-fit}
 use Rattle.sbc_encoder.proofs.SbcEncoder.encode.Goals as goal
-
--- what the code reads where an array has no such history
-abbrev none : Analysis
-none = record { history = [] }
-
--- an encoder with two histories is what they make
-held : (e : SbcEncoder) (d : Analysis) → length e.analysis ≡ 2
-    → encoder_with e.parameters (get_or e.analysis 0 d).history (get_or e.analysis 1 d).history ≡ e
-unfolding collect build
-held e d two =
-    ap (λ l. record { parameters = e.parameters; analysis = l })
-    (build-is 2 (λ i. get_or e.analysis i d) e.analysis d two (λ i h. refl))
 
 -- a number of frames of k samples, with what the code has for it and for k
 count_is : (e : SbcEncoder) (input : List ℤ) (output : List ℕ) (n samples size : ℕ)
@@ -68,7 +54,7 @@ nonzero_div-output c =
 pub encode_frames-requires : goal.encode_frames-requires
 encode_frames-requires c =
     let e = c.args.self.now in
-    let same = c.in_ok-accepted.ensures.ok in
+    let same = c.in_ok-accepted.ensures.0 in
     let h =
     count_is e c.args.input.now c.args.output.now c.min-count.result _ _ (c.frame_samples-samples.ensures ∙ ap frame_samples same)
     (c.frame_length-length.ensures ∙ ap frame_length same) c.min-count.ensures in
@@ -81,23 +67,19 @@ returns c =
     let e : SbcEncoder = c.args.self.now in
     let input : List ℤ = c.args.input.now in
     let output : List ℕ = c.args.output.now in
-    let same = c.in_ok-accepted.ensures.ok in
+    let same = c.in_ok-accepted.ensures.0 in
     let size : c.frame_length-length.result ≡ frame_length e.parameters = c.frame_length-length.ensures ∙ ap frame_length same in
     let rate : c.frame_samples-samples.result ≡ frame_samples e.parameters = c.frame_samples-samples.ensures ∙ ap frame_samples same in
     let n : ℕ = frames e input output in
-    let left : List ℤ = c.encode_frames.new.left in
-    let right : List ℤ = c.encode_frames.new.right in
+    let after : List Analysis = c.encode_frames.new.histories in
     let filled : List ℕ = c.encode_frames.new.output in
     let h : c.min-count.result ≡ n = count_is e input output c.min-count.result _ _ rate size c.min-count.ensures in
-    let w = c.well_formed in
-    let two : length e.analysis ≡ 2 = omega arith in
-    let hears : encoder_with e.parameters left right ≡ encoder_after n e input =
-    subst₂ (λ k x. encoder_with e.parameters left right ≡ encoder_after k x input) h (held e none two)
-    (rw same at c.encode_frames.ensures.encoder) in
+    let hears : encoder_with e.parameters after ≡ encoder_after n e input =
+    subst (λ k. encoder_with e.parameters after ≡ encoder_after k e input) h (rw same at c.encode_frames.ensures.encoder) in
     let writes : filled ≡ pack_all e.parameters (encoded_frames n e input) ++ drop (n * frame_length e.parameters) output =
-    subst₂
-    (λ k x. filled ≡ pack_all e.parameters (encoded_frames k x input) ++ drop (k * frame_length e.parameters) output)
-    h (held e none two) (rw same at c.encode_frames.ensures.output) in
+    subst
+    (λ k. filled ≡ pack_all e.parameters (encoded_frames k e input) ++ drop (k * frame_length e.parameters) output)
+    h (rw same at c.encode_frames.ensures.output) in
     let consumes = ap₂ ◌*◌ h rate in
     let produces = ap₂ ◌*◌ h size in
     let yes : accepted e.parameters ≡ true = rw same at c.in_ok-accepted.accepted.is_accepted in
