@@ -5,3 +5,4 @@ pub mod Ring
 pub mod Bounds
 pub mod Words
 pub mod Terms
+pub mod ByChannel

@@ -1,81 +1,80 @@
 -- A block of subband samples played from an array of eight; one block more of a channel: the history after it, and its samples in their
 -- places behind those of the blocks before it; and the channels of a frame.
 -- Assumes nothing.
-use Prim.Native.Nat.{ℕ, zero, suc, ◌+◌, ◌*◌, ◌^◌, ◌≤◌, ◌<◌}
-use mathlib.Core.Path.{◌≡◌, refl, sym, ap, ap₂, ◌∙◌, subst}
+use Prim.Native.Nat.{ℕ, zero, suc, ◌+◌, ◌*◌, ◌^◌, ◌<◌}
+use mathlib.Core.Path.{◌≡◌, refl, sym, ap, ap₂, ◌∙◌}
 use mathlib.Core.Logic.{inl, inr}
 use mathlib.Core.List.{List, [], ◌∷◌, ◌++◌}
 use native.Mathlib.Nat.{not-suc-le-zero, le_of_suc-le-suc, zero-mul, suc-mul}
 use native.Mathlib.Numerals.{add-one}
 use native.Mathlib.Omega.{arith}
-use lib.ListN.{length, get_or, drop, get_or-append}
+use lib.ListN.{length, get_or, set, get_or-append}
 use lib.Seq.{get_or-append-add}
-use lib.IntN.{ℤ, pos, ◌*ℤ◌, nat_abs}
+use lib.IntN.{ℤ, pos, ◌*ℤ◌}
 use mir.Syntax.{w32}
-use borrow.Author.Tests.{lt-ltb, le-ltb}
-use Rattle.laws.specs.Integers.{Within, floor_div, clamp_z}
+use Rattle.laws.specs.Integers.{floor_div, clamp_z}
 use Rattle.laws.specs.Lists.{collect, build}
 use Rattle.laws.proofs.Lists.{length-build, get_or-build, build-ext}
-use Rattle.laws.proofs.Arrays.{within-up_to}
 use Rattle.laws.proofs.Sums.{sum_z-ext}
 use Rattle.sbc_parameters.specs.declared.SbcParameters.{SbcParameters}
 use Rattle.sbc_parameters.specs.declared.accepted_set.AcceptedSet.{AcceptedSet}
 use Rattle.sbc_parameters.specs.Parameters.{channels}
 use Rattle.sbc_parameters.proofs.Accepted.{subbands-cases}
-use Rattle.sbc_parameters.specs.Sizes.{samples_per_channel, frame_samples}
+use Rattle.sbc_parameters.specs.Sizes.{samples_per_channel}
 use Rattle.sbc_filterbank.specs.Subbands.{Bands, padded}
 use Rattle.sbc_filterbank.specs.Synthesis.{synthesis_cosine, modulated_at, modulated, synthesis_outputs}
 use Rattle.sbc_filterbank.specs.Ring.{ring, next_slot, ring_pushed}
 use Rattle.sbc_filterbank.specs.declared.synthesis.Synthesis.{Synthesis}
-use Rattle.sbc_filterbank.proofs.Bands.{bands-le, padded-at}
+use Rattle.sbc_filterbank.proofs.Bands.{padded-at}
 use Rattle.sbc_filterbank.proofs.Lengths.{length-ring-pushed}
+use Rattle.sbc_filterbank.proofs.ByChannel.{replaced, length-replaced, not-replaced, next_replaced}
 use Rattle.sbc_filterbank.proofs.Ring.{outputs-push}
-use Rattle.sbc_frame.specs.Channels.{interleave, no_synthesis, synthesized, synthesize, synthesize_blocks, synthesis_after}
-use Rattle.sbc_frame.specs.Arrays.{sample_in}
-use Rattle.sbc_frame.proofs.Blocks.{eight, synthesis-after-next, synthesize-next, length-synthesize_blocks}
-use Rattle.sbc_play.specs.Playing.{blocks_in, placed, history_after, histories_after}
-use Rattle.sbc_play.proofs.Weaving.{placed-none, placed-ext, placed-behind, woven, woven-none, woven-is}
+use Rattle.sbc_frame.specs.Channels.{no_synthesis, synthesized, synthesize, synthesize_blocks, synthesis_after}
+use Rattle.sbc_frame.specs.declared.blocks.Blocks.{Blocks}
+use Rattle.sbc_frame.specs.Encoding.{sample_at}
+use Rattle.sbc_frame.proofs.ByBlock.{eight, synthesis-after-next, synthesize-next, length-synthesize_blocks}
+use Rattle.sbc_play.specs.Playing.{blocks_in, channel_in, placed, histories_after}
+use Rattle.sbc_play.proofs.Weaving.{placed-none, placed-ext, placed-behind, woven}
 
--- eight samples within a bound
-pub row_within : (b : ℕ) (f : ℕ → ℤ) (input : List ℤ) → input ≡ build 8 f → ((s : ℕ) → s < 8 → nat_abs (f s) ≤ b) → Within b input
-unfolding collect build
-row_within b f input e h = subst (Within b) (sym e) (within-up_to 8 8 b f h)
-
--- the vector of a block of S samples reads no more than S of eight
-modulated-first : (S : ℕ) (f : ℕ → ℤ) → S ≤ 8 → modulated S (build 8 f) ≡ modulated S (build S f)
+-- the vector of a block of S samples reads no more than the first S of a row
+modulated-first : (S : ℕ) (row : List ℤ) → modulated S row ≡ modulated S (build S (λ s. get_or row s (pos 0)))
 unfolding modulated modulated_at
-modulated-first S f le =
+modulated-first S row =
     build-ext (2 * S) _ _
     (λ r h. ap (λ (z : ℤ). clamp_z w32 (floor_div z (2 ^ 30)))
     (sum_z-ext S _ _
-    (λ i lt. ap (λ (z : ℤ). synthesis_cosine S r i *ℤ z) (get_or-build 8 f i (pos 0) (omega arith) ∙ sym (get_or-build S f i (pos 0) lt)))))
+    (λ i lt. ap (λ (z : ℤ). synthesis_cosine S r i *ℤ z) (sym (get_or-build S (λ s. get_or row s (pos 0)) i (pos 0) lt)))))
 
 -- the history after a block, and its samples in their places, from what the code's steps give
-module _ {S : ℕ} (C c b : ℕ) (f : ℕ → ℤ) (h new : Synthesis) (input pcm before after : List ℤ) (bands : Bands S)
-    (l : length h.values ≡ 160) (i : input ≡ build 8 f) (v : new.values ≡ ring_pushed S (modulated S input) h.values h.newest)
+module _ {S : ℕ} (C c b : ℕ) (h new : Synthesis) (row pcm before after : List ℤ) (bands : Bands S)
+    (l : length new.values ≡ 160) (v : new.values ≡ ring_pushed S (modulated S row) h.values h.newest)
     (w : new.newest ≡ next_slot h.newest) (o : pcm ≡ padded (synthesis_outputs S (ring S new.values new.newest)))
     (a : after ≡ placed C c (b * S) S (λ j. get_or pcm j (pos 0)) before) where
-  values-are : new.values ≡ ring_pushed S (modulated S (build S f)) h.values h.newest
-  values-are = v ∙ ap (λ (m : List ℤ). ring_pushed S m h.values h.newest) (ap (modulated S) i ∙ modulated-first S f (bands-le bands))
+  abbrev row_block : List ℤ
+  row_block = build S (λ s. get_or row s (pos 0))
 
-  history-is : new ≡ synthesized S h (build S f)
+  values-are : new.values ≡ ring_pushed S (modulated S row_block) h.values h.newest
+  values-are = v ∙ ap (λ (m : List ℤ). ring_pushed S m h.values h.newest) (modulated-first S row)
+
+  history-is : new ≡ synthesized S h row_block
   unfolding synthesized
   history-is = λ k. record { values = values-are k; newest = w k }
 
-  samples-are : (j : ℕ) → get_or pcm j (pos 0) ≡ get_or (synthesize S h (build S f)) j (pos 0)
+  samples-are : (j : ℕ) → get_or pcm j (pos 0) ≡ get_or (synthesize S h row_block) j (pos 0)
   unfolding synthesize
   samples-are j =
       ap (λ (z : List ℤ). get_or z j (pos 0)) o ∙ padded-at _ j
       ∙ ap (λ (z : List ℤ). get_or z j (pos 0))
-      (ap₂ (λ (z : List ℤ) (n : ℕ). synthesis_outputs S (ring S z n)) values-are w ∙ outputs-push (build S f) h.values h.newest bands l)
+      (ap₂ (λ (z : List ℤ) (n : ℕ). synthesis_outputs S (ring S z n)) values-are w ∙ outputs-push row_block h.values h.newest bands
+      (sym (length-ring-pushed S (modulated S row) h.values h.newest) ∙ ap length (sym v) ∙ l))
 
-  pub block-played : (new ≡ synthesized S h (build S f))
-      × (after ≡ placed C c (b * S) S (λ j. get_or (synthesize S h (build S f)) j (pos 0)) before)
+  pub block-played : (new ≡ synthesized S h row_block)
+      × (after ≡ placed C c (b * S) S (λ j. get_or (synthesize S h row_block) j (pos 0)) before)
   block-played = (history-is, a ∙ placed-ext C c (b * S) S _ _ before (λ j lt. samples-are j))
 
 -- ---- the blocks of a channel
-module _ (S : ℕ) (h : Synthesis) (xs : List ℤ) where
-  blocks-next : (n : ℕ) → blocks_in (n + 1) S xs ≡ blocks_in n S xs ++ (build S (λ s. sample_in xs n s) ∷ [])
+module _ (S : ℕ) (h : Synthesis) (xs : List (List ℤ)) where
+  blocks-next : (n : ℕ) → blocks_in (n + 1) S xs ≡ blocks_in n S xs ++ (build S (sample_at xs n) ∷ [])
   unfolding blocks_in build collect
   blocks-next n = rw add-one
 
@@ -97,14 +96,9 @@ module _ (S : ℕ) (h : Synthesis) (xs : List ℤ) where
 
   module _ (n : ℕ) (old : Synthesis) (e : old ≡ synthesis_after S h (blocks_in n S xs)) where
     abbrev block : List ℤ
-    block = build S (λ s. sample_in xs n s)
+    block = build S (sample_at xs n)
 
-    -- the history after one block more: its length, and what it is
-    pub length-next : (m : ℕ) (new : Synthesis) → new ≡ synthesized S old block → length old.values ≡ m → length new.values ≡ m
-    unfolding synthesized
-    length-next m new v q =
-        ap (λ (g : Synthesis). length g.values) v ∙ length-ring-pushed S (modulated S block) old.values old.newest ∙ q
-
+    -- the history after one block more
     pub after_next : (new : Synthesis) → new ≡ synthesized S old block → new ≡ synthesis_after S h (blocks_in (n + 1) S xs)
     after_next new v =
         v ∙ ap (λ (g : Synthesis). synthesized S g block) e
@@ -149,74 +143,44 @@ get_d_any [] i d e h = absurd (not-suc-le-zero h)
 get_d_any (x ∷ l) zero d e h = refl
 get_d_any (x ∷ l) (suc i) d e h = get_d_any l i d e (le_of_suc-le-suc h)
 
-module _ (p : SbcParameters) (histories : List Synthesis) (left right : List ℤ) (two : length histories ≡ 2) where
-  -- a channel's blocks, and its samples
-  abbrev blocks_of : ℕ → List (List ℤ)
-  blocks_of c = blocks_in p.blocks p.subbands (get_or (left ∷ right ∷ []) c [])
+module _ (p : SbcParameters) (histories : List Synthesis) (samples : List Blocks) where
+  -- a channel's history after the frame, and its PCM
+  abbrev pub after_of : ℕ → Synthesis
+  after_of c = synthesis_after p.subbands (get_or histories c no_synthesis) (channel_in p samples c)
 
-  abbrev channel_of : ℕ → List ℤ
-  channel_of c = synthesize_blocks p.subbands (get_or histories c no_synthesis) (blocks_of c)
+  abbrev pub channel_of : ℕ → List ℤ
+  channel_of c = synthesize_blocks p.subbands (get_or histories c no_synthesis) (channel_in p samples c)
 
-  -- what a channel's call gives, where d stands for a missing history: the next history, and the output with the channel's samples
-  module _ (C : ℕ) (d : Synthesis) where
-    abbrev Given : ℕ → Synthesis → List ℤ → List ℤ → Type 0
-    Given c new now next =
-        (new ≡ synthesis_after p.subbands (get_or histories c d) (blocks_of c))
-        × (next
-        ≡ placed C c 0 (p.blocks * p.subbands)
-        (λ j. get_or (synthesize_blocks p.subbands (get_or histories c d) (blocks_of c)) j (pos 0)) now)
+  module _ (n : ℕ) (hs : List Synthesis) (d : Synthesis) (e : hs ≡ replaced after_of no_synthesis histories n) (there : n < 2) where
+    -- the next channel's history is as it was
+    history-there : get_or hs n d ≡ get_or histories n no_synthesis
+    history-there =
+        get_d_any hs n d no_synthesis (omega (arith, ap length e, length-replaced after_of no_synthesis histories n))
+        ∙ ap (λ (l : List Synthesis). get_or l n no_synthesis) e ∙ not-replaced after_of no_synthesis histories n there
 
-    module _ (c : ℕ) (there : c < 2) where
-      history : get_or histories c d ≡ get_or histories c no_synthesis
-      history = get_d_any histories c d no_synthesis (omega arith)
+    -- and is moved
+    pub history-played : (new : Synthesis) → new ≡ synthesis_after p.subbands (get_or hs n d) (channel_in p samples n)
+        → set hs n new ≡ replaced after_of no_synthesis histories (n + 1)
+    history-played new q =
+        next_replaced after_of no_synthesis histories n hs new e
+        (q ∙ ap (λ (h : Synthesis). synthesis_after p.subbands h (channel_in p samples n)) history-there)
 
-      -- one channel more put in
-      channel-woven : (new : Synthesis) (xs now next : List ℤ) → now ≡ woven C (samples_per_channel p) channel_of xs c
-          → Given c new now next
-          → next ≡ woven C (samples_per_channel p) channel_of xs (c + 1)
-      unfolding woven samples_per_channel
-      channel-woven new xs now next e (q, r) =
-          rw add-one
-          (r
-          ∙ ap₂ (λ (h : Synthesis) (zs : List ℤ).
-          placed C c 0 (p.blocks * p.subbands) (λ j. get_or (synthesize_blocks p.subbands h (blocks_of c)) j (pos 0)) zs) history e)
+    -- and its PCM is put in
+    pub channel-woven : (C : ℕ) (xs now next : List ℤ) → now ≡ woven C (samples_per_channel p) channel_of xs n
+        → next
+        ≡ placed C n 0 (p.blocks * p.subbands)
+        (λ j. get_or (synthesize_blocks p.subbands (get_or hs n d) (channel_in p samples n)) j (pos 0)) now
+        → next ≡ woven C (samples_per_channel p) channel_of xs (n + 1)
+    unfolding woven samples_per_channel
+    channel-woven C xs now next w r =
+        rw add-one
+        (r
+        ∙ ap₂ (λ (h : Synthesis) (zs : List ℤ).
+        placed C n 0 (p.blocks * p.subbands) (λ j. get_or (synthesize_blocks p.subbands h (channel_in p samples n)) j (pos 0)) zs)
+        history-there w)
 
-      -- a history after its channel's blocks, and one that stays
-      history-played : (new : Synthesis) (now next : List ℤ) → c < channels p → Given c new now next
-          → new ≡ history_after p histories left right c
-      history-played new now next lt (q, r) =
-          rw (lt-ltb c (channels p) lt) (q ∙ ap (λ (h : Synthesis). synthesis_after p.subbands h (blocks_of c)) history)
-
-      history-kept : channels p ≤ c → get_or histories c d ≡ history_after p histories left right c
-      history-kept le = rw (le-ltb c (channels p) le) history
-
-    histories-are : (first second : Synthesis) → first ≡ history_after p histories left right 0
-        → second ≡ history_after p histories left right 1
-        → first ∷ second ∷ [] ≡ histories_after p histories left right
-    unfolding histories_after build collect
-    histories-are first second e q = ap₂ (λ (a b : Synthesis). a ∷ b ∷ []) e q
-
-    -- a frame of one channel, and of two
-    module _ (xs one : List ℤ) (first : Synthesis) (e : C ≡ channels p) (fits : frame_samples p ≤ length xs)
-        (g : Given 0 first xs one) where
-      first-woven : one ≡ woven C (samples_per_channel p) channel_of xs 1
-      first-woven = channel-woven 0 (omega arith) first xs xs one (woven-none C (samples_per_channel p) channel_of xs) g
-
-      pub one-played : C ≡ 1
-          → (first ∷ get_or histories 1 d ∷ [] ≡ histories_after p histories left right)
-          × (one ≡ interleave p channel_of ++ drop (frame_samples p) xs)
-      one-played q =
-          let h : channels p ≡ 1 = sym e ∙ q in (
-            histories-are first (get_or histories 1 d) (history-played 0 (omega arith) first xs one (omega arith) g)
-                (history-kept 1 (omega arith) (omega arith)),
-            first-woven ∙ woven-is p channel_of xs (omega arith) fits C 1 e (sym h),
-          )
-
-      pub two-played : C ≡ 2 → (second : Synthesis) (both : List ℤ) → Given 1 second one both
-          → (first ∷ second ∷ [] ≡ histories_after p histories left right) × (both ≡ interleave p channel_of ++ drop (frame_samples p) xs)
-      two-played q second both k =
-          let h : channels p ≡ 2 = sym e ∙ q in (
-            histories-are first second (history-played 0 (omega arith) first xs one (omega arith) g)
-                (history-played 1 (omega arith) second one both (omega arith) k),
-            channel-woven 1 (omega arith) second xs one both first-woven k ∙ woven-is p channel_of xs (omega arith) fits C 2 e (sym h),
-          )
+  -- in the end all histories are
+  pub all-played : (n : ℕ) (hs : List Synthesis) → n ≡ channels p → hs ≡ replaced after_of no_synthesis histories n
+      → hs ≡ histories_after p histories samples
+  unfolding replaced histories_after
+  all-played n hs q e = e ∙ ap (replaced after_of no_synthesis histories) q

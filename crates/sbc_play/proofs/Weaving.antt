@@ -23,7 +23,7 @@ use Rattle.sbc_parameters.specs.declared.SbcParameters.{SbcParameters}
 use Rattle.sbc_parameters.specs.Parameters.{channels}
 use Rattle.sbc_parameters.specs.Sizes.{samples_per_channel, frame_samples}
 use Rattle.sbc_frame.specs.Channels.{interleave}
-use Rattle.sbc_frame.proofs.Blocks.{place-before}
+use Rattle.sbc_frame.proofs.ByBlock.{place-before}
 use Rattle.sbc_play.specs.Playing.{placed}
 
 -- ---- places of the channels
@@ -109,7 +109,7 @@ module _ (C n : ℕ) (channel : ℕ → List ℤ) (xs : List ℤ) where
   unfolding woven
   woven-none = refl
 
-  length-woven : (m : ℕ) → length (woven C n channel xs m) ≡ length xs
+  pub length-woven : (m : ℕ) → length (woven C n channel xs m) ≡ length xs
   unfolding woven
   length-woven zero = refl
   length-woven (suc m) = length-placed C m 0 (λ j. get_or (channel m) j (pos 0)) (woven C n channel xs m) n ∙ length-woven m

@@ -4,7 +4,7 @@
 // Each loop is written once, over the filterbank's type, so that the compiler makes a loop of known length for 4 subbands and for 8.
 #![tactic(auto)]
 
-ghost use Rattle.std.specs.Prelude.{ℕ, ◌≡◌, ◌+◌, ◌*◌, ◌%◌, ◌^◌, ◌≤◌, ◌<◌, get_or, pos, nat_abs};
+ghost use Rattle.std.specs.Prelude.{ℕ, ◌≡◌, ◌+◌, ◌*◌, ◌%◌, ◌^◌, ◌≤◌, ◌<◌, length, get_or, pos, nat_abs};
 ghost use Rattle.laws.specs.Lists.{build};
 ghost use Rattle.laws.specs.Integers.{Within};
 ghost use Rattle.laws.specs.Sums.{up_to};
@@ -98,7 +98,8 @@ fn output<B: Bank>(sums: &[i64; 8]) -> [i16; 8]
 }
 
 // One block of synthesis, for the filterbank's S subbands: the first S places of `input` count, and past S outputs there are zeros. The
-// history is altered where the caller has it. The bound on the samples keeps pairs within an i32 and sums within an i64.
+// history is altered where the caller has it; the clause `long` says what a caller, who lends the struct, does not learn from its type. The
+// bound on the samples keeps pairs within an i32 and sums within an i64.
 // Never inlined: in a loop over blocks, whose history is a local, the compiler would choose each of the 80 places anew (40,900 instructions
 // a frame of HIGH_QUALITY against 31,300).
 #[inline(never)]
@@ -106,6 +107,7 @@ pub fn synthesize_by<B: SynthesisBank>(history: &mut Synthesis, input: &[i32; 8]
     requires { Within (2 ^ 29) input.now }
     ensures values { history.new.values
         ≡ ring_pushed B.SUBBANDS (modulated B.SUBBANDS input.now) history.old.values history.old.newest }
+    ensures long { length history.new.values ≡ 160 }
     ensures newest { history.new.newest ≡ next_slot history.old.newest }
     ensures outputs { result ≡ padded (synthesis_outputs B.SUBBANDS (ring B.SUBBANDS history.new.values history.new.newest)) }
 {
@@ -128,6 +130,7 @@ pub fn synthesize(history: &mut Synthesis, input: &[i32; 8], subbands: usize) ->
     requires { Within (2 ^ 29) input.now }
     ensures values { history.new.values
         ≡ ring_pushed (bands_of subbands) (modulated (bands_of subbands) input.now) history.old.values history.old.newest }
+    ensures long { length history.new.values ≡ 160 }
     ensures newest { history.new.newest ≡ next_slot history.old.newest }
     ensures outputs { result
         ≡ padded (synthesis_outputs (bands_of subbands) (ring (bands_of subbands) history.new.values history.new.newest)) }

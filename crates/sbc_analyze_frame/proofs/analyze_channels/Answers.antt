@@ -12,14 +12,15 @@ use Rattle.std.proofs.lemmas.List.{length-map}
 use Rattle.sbc_parameters.proofs.Accepted.{channels-range}
 use Rattle.sbc_filterbank.specs.declared.analysis.Analysis.{Analysis}
 use Rattle.sbc_frame.proofs.ByBlock.{asked}
-use Rattle.sbc_analyze_frame.proofs.Channels.{histories_none, histories_all, history-there, channel-moved, after-given, samples-given}
+use Rattle.sbc_filterbank.proofs.ByChannel.{none_replaced}
+use Rattle.sbc_analyze_frame.proofs.Channels.{history-there, channel-moved, all-moved, after-given, samples-given}
 use Rattle.sbc_analyze_frame.proofs.Channels.{silent_at, rows-before, rows-behind}
 use Rattle.sbc_analyze_frame.proofs.analyze_channels.Goals as goal
 
 pub loop-index-init : goal.loop-index-init
 loop-index-init c =
     let two : length c.args.histories.now ≡ 2 = search rules in
-    (omega arith, histories_none _ _ _ (length-map _ _ ∙ two), λ k h. absurd (omega arith), refl, λ k _ h. silent_at k h)
+    (omega arith, none_replaced _ _ _ (length-map _ _ ∙ two), λ k h. absurd (omega arith), refl, λ k _ h. silent_at k h)
 
 pub analyze_channel-requires : goal.analyze_channel-requires
 analyze_channel-requires c =
@@ -37,7 +38,7 @@ loop-index-preserved c =
     let there : turn.index < 2 = omega (arith, channels-range p) in
     let old = history-there p H c.args.input.now turn.index turn.histories (record { history = [] }) turn.invariant.1 there in (
       omega arith,
-      channel-moved p H c.args.input.now turn.index turn.histories (record { history = [] }) _ turn.invariant.1 there
+      channel-moved p H c.args.input.now turn.index turn.histories (record { history = [] }) turn.invariant.1 there _
           (made.history
           ∙ after-given p H c.args.input.now _ _ _ count c.from-blocks.ensures c.from-subbands.ensures turn.index _),
       rows-before turn.index turn.samples _ _ (omega (arith, there, turn.invariant.3)) turn.invariant.2
@@ -50,4 +51,4 @@ loop-index-preserved c =
 pub returns-clause-histories : goal.returns-clause-histories
 returns-clause-histories c =
     let count = c.from-count.ensures ∙ c.channels.ensures in
-    histories_all c.args.accepted.set _ c.args.input.now c.loop-index.index _ (omega (arith, count)) c.loop-index.invariant.1
+    all-moved c.args.accepted.set _ c.args.input.now c.loop-index.index _ (omega (arith, count)) c.loop-index.invariant.1

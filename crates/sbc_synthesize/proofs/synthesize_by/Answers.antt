@@ -24,6 +24,7 @@ returns g c =
       values =
           vector-pushed c.args.input.now _ _ _ _ _ _ _ g.met.B.Bank.bands pairs.sums pairs.differences c.row_all-rows.ensures
           c.advance-slot.ensures (rw (c.SUBBANDS.ensures) at c.push.ensures);
+      long = c.push.array_long;
       newest = c.advance-slot.ensures;
       outputs = outputs-of _ _ _ g.met.B.Bank.bands c.sums-sums.ensures c.output.ensures;
     }
