@@ -8,7 +8,6 @@ use lib.Dec.{ltb, eqb}
 use lib.ListN.{length, get_or}
 use lib.IntN.{pos, pred_ℤ, neg_ℤ, ◌-ℤ◌, pred_ℤ-+ℤ}
 use lib.Signed.{le_z}
-use borrow.Author.Tests.{lt-ltb, le-ltb, eq-eqb, ne_eqb}
 use Rattle.std.specs.Prelude.{if◌then◌else◌}
 use Rattle.sbc_share.specs.Share.{above, heights, level_bits, descend, greatest_need, least_need, level_of}
 use Rattle.sbc_share.specs.Raised.{lowered, greatest_raised, least_raised, excesses}
@@ -47,7 +46,7 @@ module _ (ns : List ℕ) (bitpool floor v count : ℕ) where
   abbrev reached : ℕ
   reached = count + level_bits (excesses v ns)
 
-  descend-step : floor < v → descend (v - floor) (map lowered ns) bitpool (lowered v) count ≡
+  pub descend-step : floor < v → descend (v - floor) (map lowered ns) bitpool (lowered v) count ≡
       (if ltb reached bitpool then descend (v - 1 - floor) (map lowered ns) bitpool (lowered (v - 1)) reached else
       if eqb reached bitpool then lowered (v - 1) else
       lowered v)
@@ -55,19 +54,6 @@ module _ (ns : List ℕ) (bitpool floor v count : ℕ) where
   descend-step h =
       let more : v - floor ≡ suc (v - 1 - floor) = omega arith in
       rw (more, heights-lowered v ns, lowered-pred v (omega arith)) refl
-
-  -- its three ends, where the needs add `added` bits at level v: the sum does not reach the bitpool, reaches it, or passes it
-  module _ (added : ℕ) (h : floor < v) (is : added ≡ level_bits (excesses v ns)) where
-    pub descend-more : count + added < bitpool → descend (v - floor) (map lowered ns) bitpool (lowered v) count
-        ≡ descend (v - 1 - floor) (map lowered ns) bitpool (lowered (v - 1)) (count + added)
-    descend-more less = rw (descend-step h, ← is, lt-ltb (count + added) bitpool less) refl
-
-    pub descend-exact : count + added ≡ bitpool → descend (v - floor) (map lowered ns) bitpool (lowered v) count ≡ lowered (v - 1)
-    descend-exact e = rw (descend-step h, ← is, le-ltb (count + added) bitpool (omega arith), eq-eqb (count + added) bitpool e) refl
-
-    pub descend-passed : bitpool < count + added → descend (v - floor) (map lowered ns) bitpool (lowered v) count ≡ lowered v
-    descend-passed more =
-        rw (descend-step h, ← is, le-ltb (count + added) bitpool (omega arith), ne_eqb (count + added) bitpool (omega arith)) refl
 
 -- ---- where it begins
 

@@ -84,23 +84,24 @@ impl Group<'_> {
         self.needs.iter().copied().fold(top, u32::min)
     }
 
-    // The level search: from the top level down by one, to where the running sum of bits reaches or passes the bitpool, and
-    // one lower still where it is exact. It never passes the floor, the least need minus sixteen, where each need has 16 bits.
-    fn find_level(&self, floor: u32, top: u32) -> u32
-        requires { floor < top }
-        ensures { lowered result ≡ descend (top - floor) (map lowered self.now.needs.now) self.now.bitpool (lowered top) 0 }
+    // The level search: from a level down by one, to where the running sum reaches or passes the bitpool. It never passes the floor, the
+    // least need minus sixteen, where each need has 16 bits.
+    // Kept: recursion, the form that document 01 names for this place: "a function that calls itself with the level one lower".
+    fn find_level(&self, floor: u32, level: u32, count: u32) -> u32
+        requires { count ≤ self.now.bitpool }
+        ensures { lowered result ≡ descend (level - floor) (map lowered self.now.needs.now) self.now.bitpool (lowered level) count }
     {
-        let mut count = 0;
-        for level in (floor + 1..=top).rev() {
-            count += self.level_bits(level);
-            if count == self.bitpool {
-                return level - 1;
-            }
-            if self.bitpool < count {
-                return level;
-            }
+        if level <= floor {
+            return level;
         }
-        floor
+        let reached = count + self.level_bits(level);
+        if reached < self.bitpool {
+            self.find_level(floor, level - 1, reached)
+        } else if reached == self.bitpool {
+            level - 1
+        } else {
+            level
+        }
     }
 
     // The level that the search ends at.
@@ -109,7 +110,7 @@ impl Group<'_> {
     {
         let top = self.greatest_need();
         let low = self.least_need(top);
-        self.find_level(low - 16, top)
+        self.find_level(low - 16, top, 0)
     }
 
     // The base bits with one round of gains, in order; zeros stand behind them.
