@@ -6,7 +6,8 @@ ghost use Rattle.std.specs.Prelude.{ℕ, ◌+◌, ◌*◌, ◌^◌, ◌≤◌, �
 use sbc_frame::{BlockCount, Blocks, Quantization};
 use sbc_quantizer::quantize;
 
-// The bytes lent for a body, where the next whole one goes, and the bits that do not fill a byte yet.
+// The bytes lent for a body, where the next whole one goes, and the bits that do not fill a byte yet. That each byte is below 256 is said
+// here, since the check knows it of a slice, but not of one that a field lends.
 #[derive(Drop)]
 pub struct Writer<'a> {
     pub bytes: &'a mut [u8],

@@ -25,15 +25,6 @@ widths_16 : (p : SbcParameters) (factors table : List (List ℕ)) → table ≡ 
     → (c s : ℕ) → entry (get_or table c []) s ≤ 16
 widths_16 p factors table e c s = rw e (table-16 p factors c s)
 
-pub overflow_sub-others : goal.overflow_sub-others
-overflow_sub-others c = omega (arith, c.from.ensures, c.channels.ensures, (row-sizes _ c.args.accepted.is_accepted).channels-low)
-
-pub overflow_mul-others : goal.overflow_mul-others
-overflow_mul-others c =
-    let p : SbcParameters = c.args.accepted.set in
-    let others = others_is p _ _ c.from-subbands.ensures (c.from.ensures ∙ c.channels.ensures) in
-    omega (arith, others, (row-sizes p c.args.accepted.is_accepted).others-high)
-
 pub shared_ref_as_front-put_row : goal.shared_ref_as_front-put_row
 shared_ref_as_front-put_row c = omega (arith, c.join_count-joins.ensures.0, (row-sizes _ c.args.accepted.is_accepted).joins-high)
 

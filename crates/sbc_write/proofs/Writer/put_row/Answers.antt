@@ -1,14 +1,13 @@
 -- `sbc_write::Writer::put_row` meets its contract.
 -- Assumes nothing.
 use Prim.Native.Nat.{ℕ, ◌+◌, ◌≤◌}
-use mathlib.Core.Path.{◌≡◌, subst}
 use native.Mathlib.Nat.{add-mul, mul-le-mul_right}
 use native.Mathlib.Omega.{arith}
 use lib.ListN.{length}
 use Rattle.laws.specs.Lists.{collect}
 use Rattle.laws.specs.Bits.{bits_of}
 use Rattle.sbc_frame.specs.Arrays.{entry}
-use Rattle.sbc_write.specs.Writing.{Wrote, row_bits}
+use Rattle.sbc_write.specs.Writing.{row_bits}
 use Rattle.sbc_write.proofs.Fields.{wrote_none, one_more, counted-row}
 use Rattle.sbc_write.proofs.Writer.put_row.Goals as goal
 
@@ -29,9 +28,3 @@ unfolding row_bits
 loop-entry-preserved c =
     one_more c.args.self.now c.loop-entry.self c.put.new.self c.loop-entry.entry-index (λ s. bits_of c.args.width (entry c.args.row.now s))
     c.loop-entry.invariant (rw c.from.ensures at c.put.ensures)
-
-pub returns : goal.returns
-returns c =
-    let e : c.loop-entry.entry-index ≡ length c.args.row.now = omega arith in
-    subst (λ (n : ℕ). Wrote c.args.self.now c.loop-entry.self (row_bits c.args.row.now c.args.width n)) e
-    c.loop-entry.invariant
