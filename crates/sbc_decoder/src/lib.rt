@@ -2,17 +2,18 @@
 #![tactic(auto)]
 
 ghost use Rattle.std.specs.Prelude.{◌≡◌, ◌≤◌, length};
-ghost use Rattle.sbc_parameters.specs.Sizes.{frame_length, frame_samples};
+ghost use Rattle.sbc_parameters.specs.Sizes.{frame_samples};
 ghost use Rattle.sbc_frame.specs.Layout.{unpack};
-ghost use Rattle.sbc_decoder.specs.Decode.{cleared, play, new_decoder, finish, start_histories, decode_next, decode};
+ghost use Rattle.sbc_decoder.specs.Decode.{cleared, play, new_decoder, finish, with_synthesis, start_histories, decode_next, decode};
 ghost use Rattle.sbc_decoder.specs.Told.{told_turn, told_decoded};
 ghost use Rattle.sbc_decoder.specs.Seek.{told_sought, reset, resumed, seek};
 
 use codec::{Error, Progress, refusal_or_progress};
 use sbc_decode_frame::{decode_frame, leave_out};
 use sbc_filterbank::Synthesis;
+use sbc_frame::FrameBytes;
 use sbc_look::decide;
-use sbc_parameters::{AcceptedSet, SbcParameters};
+use sbc_parameters::SbcParameters;
 use sbc_seek::{SeekRequest, seek_request};
 
 // An SBC and mSBC decoder.
@@ -32,7 +33,7 @@ pub struct SbcDecoder {
 fn no_histories() -> [Synthesis; 2]
     ensures { result ≡ cleared }
 {
-    [Synthesis::new(), Synthesis::new()]
+    [Synthesis::new(); 2]
 }
 
 impl SbcDecoder {
@@ -77,17 +78,21 @@ impl SbcDecoder {
     pub fn decode(&mut self, input: &[u8], output: &mut [i16]) -> Result<Progress, Error>
         ensures { told_decoded result self.new output.new ≡ decode self.old input.now output.old }
     {
-        let mut consumed: usize = 0;
-        let mut produced: usize = 0;
+        let mut done = Progress {
+            consumed: 0,
+            produced: 0,
+        };
+        // Kept: a `loop`: each turn says whether another follows, and a refusal is no error of the call where a frame came before it, so
+        // that neither a `for` nor a `?` says it. It ends, since each frame takes some of the input.
         'turns: loop {
-            let turn = self.decode_next(&input[consumed..], &mut output[produced..]);
+            let turn = self.decode_next(&input[done.consumed..], &mut output[done.produced..]);
             match turn {
                 Ok(Some(progress)) => {
-                    consumed += progress.consumed;
-                    produced += progress.produced;
+                    done.consumed += progress.consumed;
+                    done.produced += progress.produced;
                 }
-                Ok(None) => return Ok(Progress { consumed, produced }),
-                Err(error) => return refusal_or_progress(error, Progress { consumed, produced }),
+                Ok(None) => return Ok(done),
+                Err(error) => return refusal_or_progress(error, done),
             }
         }
     }
@@ -102,20 +107,21 @@ impl SbcDecoder {
         match next {
             None => Ok(None),
             Some(accepted) => {
-                let length = accepted.set.frame_length();
-                Ok(Some(self.play(accepted, &input[..length], output)))
+                let bytes = &input[..accepted.set.frame_length()];
+                Ok(Some(self.play(FrameBytes { accepted, bytes }, output)))
             }
         }
     }
 
     // Plays a frame. Samples that are still to be dropped are decoded, since later ones depend on them, and then left out.
-    fn play(&mut self, accepted: AcceptedSet, frame: &[u8], output: &mut [i16]) -> Progress
-        requires { (length frame.now ≡ frame_length accepted.set) × (frame_samples accepted.set ≤ length output.old) }
-        ensures { told_turn (Ok (Some result)) self.new output.new ≡ play accepted.set self.old (unpack accepted.set frame.now) output.old }
+    fn play(&mut self, frame: FrameBytes, output: &mut [i16]) -> Progress
+        requires { frame_samples frame.accepted.set ≤ length output.old }
+        ensures { let p = frame.entry.accepted.set in
+            told_turn (Ok (Some result)) self.new output.new ≡ play p self.old (unpack p frame.entry.bytes.now) output.old }
     {
-        let set = accepted.set;
-        let histories = self.start_histories(set);
-        self.synthesis = decode_frame(accepted, histories, frame, output);
+        let set = frame.accepted.set;
+        self.start_histories(set);
+        decode_frame(&mut self.synthesis, frame, output);
         let dropped = self.skip.min(set.samples_per_channel());
         let gone = dropped * usize::from(set.channels());
         let samples = set.frame_samples();
@@ -123,19 +129,19 @@ impl SbcDecoder {
         self.parameters = Some(set);
         self.skip -= dropped;
         Progress {
-            consumed: frame.len(),
+            consumed: frame.bytes.len(),
             produced: samples - gone,
         }
     }
 
-    // The histories that a frame begins with: cleared where its subbands differ from the last accepted frame's.
-    #[tactic(auto, unfolding(crate::specs::Decode::start_histories, crate::specs::Decode::same_subbands))]
-    fn start_histories(&self, parameters: SbcParameters) -> [Synthesis; 2]
-        ensures { result ≡ start_histories parameters self.now }
+    // Clears the histories where a frame's subbands differ from the last accepted frame's.
+    #[tactic(auto, unfolding(crate::specs::Decode::start_histories, crate::specs::Decode::same_subbands, crate::specs::Decode::with_synthesis))]
+    fn start_histories(&mut self, parameters: SbcParameters)
+        ensures { self.new ≡ with_synthesis (start_histories parameters self.old) self.old }
     {
         match self.parameters {
-            Some(before) if before.subbands == parameters.subbands => self.synthesis,
-            _ => no_histories(),
+            Some(before) if before.subbands == parameters.subbands => {}
+            _ => self.synthesis = no_histories(),
         }
     }
 

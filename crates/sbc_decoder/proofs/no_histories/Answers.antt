@@ -1,6 +1,6 @@
 -- `no_histories` meets its contract: both histories are as created.
 -- Assumes nothing.
-use mathlib.Core.Path.{ap₂}
+use mathlib.Core.Path.{ap}
 use mathlib.Core.List.{List, [], ◌∷◌}
 use Rattle.sbc_filterbank.specs.declared.synthesis.Synthesis.{Synthesis}
 use Rattle.sbc_decoder.specs.Decode.{cleared}
@@ -9,7 +9,4 @@ use Rattle.sbc_decoder.proofs.no_histories.Goals as goal
 
 pub returns : goal.returns
 unfolding cleared
-returns c =
-    ap₂ {C = List Synthesis} (λ x y. x ∷ y ∷ [])
-    (silent c.new.result c.new.ensures.values c.new.ensures.newest)
-    (silent c.new-2.result c.new-2.ensures.values c.new-2.ensures.newest)
+returns c = ap {B = List Synthesis} (λ x. x ∷ x ∷ []) (silent c.new.result c.new.ensures.values c.new.ensures.newest)

@@ -10,14 +10,14 @@ use Rattle.sbc_decoder.proofs.SbcDecoder.decode.Goals as goal
 pub turns-init : goal.turns-init
 turns-init c = start _ _ _
 
-pub overflow_add-consumed : goal.overflow_add-consumed
-overflow_add-consumed c =
+pub overflow_add-done : goal.overflow_add-done
+overflow_add-done c =
     let t = c.decode_next-turn in
     let one : t.result ≡ Ok (Some c.in-Ok-Some.progress) = c.in-Ok-Some.is ∙ ap Ok (rw c.in-Ok-Some.is at c.in-Ok-Some.field-0-is) in
     omega (arith, (takes c.turns.invariant t.result t.new.self t.new.output t.ensures c.in-Ok-Some.progress one).read)
 
-pub overflow_add-produced : goal.overflow_add-produced
-overflow_add-produced c =
+pub overflow_add-done-in-Ok-Some : goal.overflow_add-done-in-Ok-Some
+overflow_add-done-in-Ok-Some c =
     let t = c.decode_next-turn in
     let one : t.result ≡ Ok (Some c.in-Ok-Some.progress) = c.in-Ok-Some.is ∙ ap Ok (rw c.in-Ok-Some.is at c.in-Ok-Some.field-0-is) in
     let k = takes c.turns.invariant t.result t.new.self t.new.output t.ensures c.in-Ok-Some.progress one in

@@ -7,7 +7,7 @@ use Rattle.sbc_decoder.proofs.Turning.{Turning}
 use Rattle.sbc_decoder.proofs.SbcDecoder.decode.Given as goal
 
 abbrev pub invariant-turns : goal.invariant-turns
-invariant-turns l = Turning l.initial.self l.input l.initial.output l.self l.output l.consumed l.produced
+invariant-turns l = Turning l.initial.self l.input l.initial.output l.self l.output l.done.consumed l.done.produced
 
 abbrev pub decreases-turns : goal.decreases-turns
-decreases-turns l = length l.input - l.consumed
+decreases-turns l = length l.input - l.done.consumed
