@@ -44,13 +44,10 @@ module _ (n : ℕ) (f g : ℕ → ℤ) (k : ℕ) (xs : List ℤ) (v : ℤ) (fits
       ∙ build-set n (spliced_at k f g) (spliced_at (k + 1) f g) k _ (pos 0)
       (to_z-of_z fits ∙ q ∙ sym (spliced-below (k + 1) f g k (omega arith))) (spliced-next k f g)
 
--- ---- the loop's start and end: nothing has entered yet, and all has
+-- ---- the loop's start: nothing has entered yet
 module _ (X : List ℤ) where
   pub none-entered : (f : ℕ → ℤ) → X ≡ build (length X) (spliced_at 0 f (λ k. get_or X k (pos 0)))
   none-entered f = sym (build-is (length X) _ X (pos 0) refl (λ k h. spliced-from 0 f (λ i. get_or X i (pos 0)) k (omega arith)))
-
-pub spliced-at : (n k m : ℕ) (f g : ℕ → ℤ) (xs : List ℤ) → k ≡ m → xs ≡ build n (spliced_at k f g) → xs ≡ build n (spliced_at m f g)
-spliced-at n k m f g xs q e = e ∙ ap (λ (i : ℕ). build n (spliced_at i f g)) q
 
 -- ---- the first 9 S places copied to behind the first S
 pub moved-is : (S n : ℕ) (X ys : List ℤ) → n ≡ 9 * S → length ys ≡ length X → CopiedTo X ys 0 S n → SameBelow X ys S

@@ -31,9 +31,6 @@ use Rattle.sbc_modulate.specs.Fold.{pair_sign, pair_of, row_odd, synthesis_rows,
 use Rattle.sbc_filterbank.proofs.Bands.{for-bands, bands-le}
 use Rattle.sbc_filterbank.proofs.Terms.{products-within}
 
-pub halves : {S : ℕ} → Bands S → S ≡ 2 * (S / 2)
-halves b = for-bands (λ s. s ≡ 2 * (s / 2)) b refl refl
-
 -- ---- the coefficients of the subband samples in the rows
 weight : ℕ → ℕ → ℕ → ℤ
 weight S m i =
