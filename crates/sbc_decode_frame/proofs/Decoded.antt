@@ -55,5 +55,6 @@ module _ (p : SbcParameters) (a : accepted p ≡ true) (f : Fields) (samples : L
   pcm-decoded =
       build-ext (frame_samples p) _ _
       (λ i _. ap
-      (λ (bs : List (List ℤ)). get_or (synthesize_blocks p.subbands (get_or histories (i % channels p) no_synthesis) bs) (i / channels p) (pos 0))
+      (λ (bs : List (List ℤ)).
+      get_or (synthesize_blocks p.subbands (get_or histories (i % channels p) no_synthesis) bs) (i / channels p) (pos 0))
       (blocks-decoded (i % channels p) (mod-lt i (channels-range p).0)))

@@ -38,7 +38,8 @@ decode-refused d input output n q =
 -- ---- seek
 
 -- a seek that is answered with a refusal
-stays : (answer : Told SeekRequest) (d : SbcDecoder) (n : ℕ) → (seek_answered answer d).answer ≡ refuses n → (seek_answered answer d).decoder ≡ d
+stays : (answer : Told SeekRequest) (d : SbcDecoder) (n : ℕ) → (seek_answered answer d).answer ≡ refuses n
+    → (seek_answered answer d).decoder ≡ d
 unfolding seek_answered
 stays (gives request) d n h = absurd (gives-refuses request n h)
 stays (refuses m) d n h = refl

@@ -31,7 +31,8 @@ module _ (d : SbcDecoder) (position : ℕ) where
       rw (h, resumed-sought d.parameters d position request refl h)
 
   -- one that is refused
-  pub seek-turned-away : (n : ℕ) → seek_request d.parameters position ≡ refuses n → seek d position ≡ record { answer = refuses n; decoder = d }
+  pub seek-turned-away : (n : ℕ) → seek_request d.parameters position ≡ refuses n
+      → seek d position ≡ record { answer = refuses n; decoder = d }
   unfolding seek seek_answered
   seek-turned-away n h = rw h
 

@@ -22,7 +22,8 @@ use Rattle.codec.specs.Answers.{progress_of, add_progress}
 use Rattle.sbc_look.specs.Look.{whole, look_parsed, look}
 use Rattle.sbc_look.specs.Next.{Decision, no_frame, refusal, plays, next_short, next_at, next}
 use Rattle.sbc_look.proofs.Deciding.{next-cases, plays-fits}
-use Rattle.sbc_decoder.specs.Decode.{start_histories, dropped, next_output, Step, none_whole, refused, Turn, play, unchanged, turn_by, decode_next, Turns, after_step, decode_turns, decode_all, decode}
+use Rattle.sbc_decoder.specs.Decode.{start_histories, dropped, next_output, Step, none_whole, refused, Turn, play, unchanged, turn_by}
+use Rattle.sbc_decoder.specs.Decode.{decode_next, Turns, after_step, decode_turns, decode_all, decode}
 use Rattle.codec.specs.declared.Progress.{Progress}
 use Rattle.sbc_decoder.specs.declared.SbcDecoder.{SbcDecoder}
 use Rattle.laws.proofs.Lists.{nil-of-length}
@@ -186,7 +187,8 @@ fuel-step (suc k) d input output h =
     (fuel-step k t.decoder (drop (frame_length p) input) (drop (kept p d) t.output)
     (omega (arith, length-drop (frame_length p) input, length_some p))))
 
-fuel-more : (j : ℕ) (d : SbcDecoder) (input : List ℕ) (output : List ℤ) → decode_turns (length input + j) d input output ≡ decode_all d input output
+fuel-more : (j : ℕ) (d : SbcDecoder) (input : List ℕ) (output : List ℤ)
+    → decode_turns (length input + j) d input output ≡ decode_all d input output
 unfolding decode_all
 fuel-more zero d input output = ap (λ k. decode_turns k d input output) (add-zero (length input))
 fuel-more (suc j) d input output =

@@ -1,4 +1,5 @@
--- The decode loop: its invariant holds at the start and after each frame that is taken, and where a turn takes none it gives the whole call.
+-- The decode loop: its invariant holds at the start and after each frame that is taken, and where a turn takes none it gives the
+-- whole call.
 -- Assumes nothing.
 use Prim.Native.Nat.{ℕ, ◌+◌, ◌-◌, ◌≤◌, ◌<◌}
 use mathlib.Core.Path.{◌≡◌, refl, sym, ap, ap₂, subst₂, ◌∙◌}
@@ -17,7 +18,8 @@ use Rattle.laws.proofs.Parts.{tail-part, put-tail}
 use Rattle.codec.specs.Errors.{error_number}
 use Rattle.codec.specs.Answers.{progress_of, add_progress, refused_after}
 use Rattle.codec.specs.declared.Error.{Error}
-use Rattle.sbc_decoder.specs.Decode.{Step, none_whole, refused, taken, Turn, play, unchanged, decode_next, Turns, after_step, decode_all, answer_of, Decoded, decode}
+use Rattle.sbc_decoder.specs.Decode.{Step, none_whole, refused, taken, Turn, play, unchanged, decode_next, Turns, after_step, decode_all}
+use Rattle.sbc_decoder.specs.Decode.{answer_of, Decoded, decode}
 use Rattle.sbc_decoder.specs.Told.{told_step, told_turn}
 use Rattle.codec.specs.declared.Progress.{Progress}
 use Rattle.sbc_decoder.specs.declared.SbcDecoder.{SbcDecoder}
@@ -51,7 +53,8 @@ module _ (d : SbcDecoder) (input : List ℕ) (output : List ℤ) where
 
 -- ---- the loop's invariant: the whole call is the frames taken so far, and then the call from here
 
-pub record Turning (d₀ : SbcDecoder) (input : List ℕ) (output₀ : List ℤ) (d : SbcDecoder) (output : List ℤ) (consumed produced : ℕ) : Type 0 where
+pub record Turning (d₀ : SbcDecoder) (input : List ℕ) (output₀ : List ℤ) (d : SbcDecoder) (output : List ℤ)
+    (consumed produced : ℕ) : Type 0 where
   pub read : consumed ≤ length input
   pub written : produced ≤ length output
   pub same_length : length output ≡ length output₀
@@ -92,7 +95,8 @@ more-more cs ps output one next r h =
     sym (ap (λ l. l ++ r.output) front ∙ append_assoc (take ps output) (take one.produced next) r.output) in
     λ i. record { progress = record { consumed = ec i; produced = ep i }; decoder = r.decoder; output = eo i; ending = r.ending }
 
-module _ {d₀ : SbcDecoder} {input : List ℕ} {output₀ : List ℤ} {d : SbcDecoder} {output : List ℤ} {cs ps : ℕ} (t : Turning d₀ input output₀ d output cs ps)
+module _ {d₀ : SbcDecoder} {input : List ℕ} {output₀ : List ℤ} {d : SbcDecoder} {output : List ℤ} {cs ps : ℕ}
+    (t : Turning d₀ input output₀ d output cs ps)
   where
     -- what the turn finds, on what is left of the input and the output
     abbrev pub found : Turn
@@ -137,7 +141,9 @@ module _ {d₀ : SbcDecoder} {input : List ℕ} {output₀ : List ℤ} {d : SbcD
 
     -- no frame is taken: the call ends with those before
     stops : (s : Step)
-        → decode_all d₀ input output₀ ≡ more (progress_of cs ps) output (record { progress = progress_of 0 0; decoder = found.decoder; output = found.output; ending = s })
+        → decode_all d₀ input output₀
+        ≡ more (progress_of cs ps) output
+        (record { progress = progress_of 0 0; decoder = found.decoder; output = found.output; ending = s })
         → record { answer = answer_of (progress_of cs ps) s; decoder = found.decoder; output = back } ≡ decode d₀ input output₀
     unfolding progress_of add_progress decode
     stops s e =
@@ -158,7 +164,8 @@ module _ {d₀ : SbcDecoder} {input : List ℕ} {output₀ : List ℤ} {d : SbcD
 
 -- ---- what the code of a turn gives back, on the tails of the input and of the output, which then comes back
 
-module _ {d₀ : SbcDecoder} {input : List ℕ} {output₀ : List ℤ} {d : SbcDecoder} {output : List ℤ} {cs ps : ℕ} (t : Turning d₀ input output₀ d output cs ps)
+module _ {d₀ : SbcDecoder} {input : List ℕ} {output₀ : List ℤ} {d : SbcDecoder} {output : List ℤ} {cs ps : ℕ}
+    (t : Turning d₀ input output₀ d output cs ps)
     (r : Result (Option Progress) Error) (next : SbcDecoder) (part : List ℤ)
     (h : told_turn r next part ≡ decode_next d (take (length input - cs) (drop cs input)) (take (length output - ps) (drop ps output)))
   where
@@ -196,7 +203,8 @@ module _ {d₀ : SbcDecoder} {input : List ℕ} {output₀ : List ℤ} {d : SbcD
 
     -- one is refused
     pub fails : (e : Error) → r ≡ Err e
-        → record { answer = refused_after (progress_of cs ps) (error_number e); decoder = next; output = returned } ≡ decode d₀ input output₀
+        → record { answer = refused_after (progress_of cs ps) (error_number e); decoder = next; output = returned }
+        ≡ decode d₀ input output₀
     unfolding answer_of
     fails e q =
         ap₂ {C = Decoded} (λ d output. record { answer = refused_after (progress_of cs ps) (error_number e); decoder = d; output = output })

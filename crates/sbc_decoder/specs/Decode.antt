@@ -1,6 +1,7 @@
 -- The decoder and its call: from the decoder, the bytes and the output at entry to the answer, the next decoder and the output at exit.
 -- From document 01, "Calls" and "Given back".
-use Rattle.std.specs.Prelude.{ℕ, zero, suc, ◌+◌, ◌-◌, ◌*◌, min, max, Bool, true, false, List, ◌++◌, eqb, ℤ, length, take, drop, replicate, if◌then◌else◌, Option, None, Some}
+use Rattle.std.specs.Prelude.{ℕ, zero, suc, ◌+◌, ◌-◌, ◌*◌, min, max, Bool, true, false, List, ◌++◌, eqb, ℤ, length, take, drop}
+use Rattle.std.specs.Prelude.{replicate, if◌then◌else◌, Option, None, Some}
 use Rattle.laws.specs.Answers.{Told, gives}
 use Rattle.sbc_parameters.specs.Parameters.{channels}
 use Rattle.sbc_parameters.specs.Sizes.{frame_length, samples_per_channel, frame_samples}
@@ -49,7 +50,8 @@ unfoldable pub same_subbands : SbcParameters → Option SbcParameters → Bool
 same_subbands p None = false
 same_subbands p (Some q) = eqb q.subbands p.subbands
 
--- the histories that a frame begins with: cleared when the subbands differ from the last accepted frame's, and not when the channel count does
+-- the histories that a frame begins with: cleared when the subbands differ from the last accepted frame's, and not when the channel
+-- count does
 unfoldable pub start_histories : SbcParameters → SbcDecoder → List Synthesis
 start_histories p d = if same_subbands p d.parameters then d.synthesis else cleared
 
@@ -62,8 +64,8 @@ unfoldable pub next_decoder : SbcParameters → SbcDecoder → Fields → SbcDec
 next_decoder p d f =
     with_parameters (Some p) (with_synthesis (synthesis_histories p (start_histories p d) f) (with_skip (d.skip - dropped p d) d))
 
--- the frame's samples stand in the first places; the kept ones then move to the front, and the places behind them, up to frame_samples, keep
--- what was just written there
+-- the frame's samples stand in the first places; the kept ones then move to the front, and the places behind them, up to
+-- frame_samples, keep what was just written there
 unfoldable pub next_output : SbcParameters → SbcDecoder → Fields → List ℤ → List ℤ
 next_output p d f output =
     let pcm = decode_fields p (start_histories p d) f in

@@ -1,4 +1,5 @@
--- What the code of the calls and of their parts gives back and leaves, in the definitions' terms, with document 01's numbers ("Given back").
+-- What the code of the calls and of their parts gives back and leaves, in the definitions' terms, with document 01's numbers
+-- ("Given back").
 use Rattle.std.specs.Prelude.{List, ℤ, Option, None, Some, Result, Ok, Err}
 use Rattle.codec.specs.Errors.{error_number}
 use Rattle.codec.specs.Answers.{told}

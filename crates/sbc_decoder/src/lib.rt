@@ -23,7 +23,8 @@ pub struct SbcDecoder {
     pub parameters: Option<SbcParameters>,
     // By channel.
     pub synthesis: [Synthesis; 2],
-    // Whether the input is said to have ended. Kept: it says of no other field whether it holds something, so that an Option has no place here.
+    // Whether the input is said to have ended.
+    // Kept: it says of no other field whether it holds something, so that an Option has no place here.
     pub finishing: bool,
     // Samples of each channel still to be dropped.
     pub skip: usize,
@@ -73,8 +74,8 @@ impl SbcDecoder {
         self.finishing = true;
     }
 
-    // Decodes frames until no whole one is left, or one is refused: its refusal is given back where no frame was accepted before it, and the
-    // progress otherwise.
+    // Decodes frames until no whole one is left, or one is refused: its refusal is given back where no frame was accepted before it,
+    // and the progress otherwise.
     pub fn decode(&mut self, input: &[u8], output: &mut [i16]) -> Result<Progress, Error>
         ensures { told_decoded result self.new output.new ≡ decode self.old input.now output.old }
     {
@@ -82,8 +83,8 @@ impl SbcDecoder {
             consumed: 0,
             produced: 0,
         };
-        // Kept: a `loop`: each turn says whether another follows, and a refusal is no error of the call where a frame came before it, so
-        // that neither a `for` nor a `?` says it. It ends, since each frame takes some of the input.
+        // Kept: a `loop`: each turn says whether another follows, and a refusal is no error of the call where a frame came before it,
+        // so that neither a `for` nor a `?` says it. It ends, since each frame takes some of the input.
         'turns: loop {
             let turn = self.decode_next(&input[done.consumed..], &mut output[done.produced..]);
             match turn {
@@ -97,8 +98,8 @@ impl SbcDecoder {
         }
     }
 
-    // One turn: what is to be done with the front of the input, done: the progress of the frame that it took, where there is a whole one. A refusal
-    // leaves all unchanged.
+    // One turn: what is to be done with the front of the input, done: the progress of the frame that it took, where there is a whole
+    // one. A refusal leaves all unchanged.
     #[tactic(auto, using(crate::proofs::Taking::deciding))]
     fn decode_next(&mut self, input: &[u8], output: &mut [i16]) -> Result<Option<Progress>, Error>
         ensures { told_turn result self.new output.new ≡ decode_next self.old input.now output.old }

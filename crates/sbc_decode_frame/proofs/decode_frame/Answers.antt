@@ -29,7 +29,7 @@ returns c =
       output =
           c.play_frame.ensures.output
           ∙ ap
-          (λ (p : SbcParameters). interleave p (λ k. synthesize_blocks p.subbands (get_or old k no_synthesis) (channel_in p read.channels k))
-          ++ drop (frame_samples p) output) same
+          (λ (p : SbcParameters).
+          interleave p (λ k. synthesize_blocks p.subbands (get_or old k no_synthesis) (channel_in p read.channels k)) ++ drop (frame_samples p) output) same
           ∙ ap (λ (pcm : List ℤ). pcm ++ drop (frame_samples a.set) output) (pcm-decoded a.set a.is_accepted f read.channels are old);
     }

@@ -12,7 +12,8 @@ use Rattle.sbc_parameters.specs.Sizes.{frame_samples}
 use Rattle.sbc_frame.specs.Layout.{unpack}
 use Rattle.sbc_frame.specs.Decoding.{decode_fields, synthesis_histories}
 use Rattle.codec.specs.Answers.{progress_of}
-use Rattle.sbc_decoder.specs.Decode.{with_parameters, with_synthesis, with_skip, start_histories, dropped, next_decoder, next_output, taken, play}
+use Rattle.sbc_decoder.specs.Decode.{with_parameters, with_synthesis, with_skip, start_histories, dropped, next_decoder, next_output}
+use Rattle.sbc_decoder.specs.Decode.{taken, play}
 use Rattle.sbc_decoder.proofs.Taking.{gone, kept, samples}
 use Rattle.sbc_decoder.proofs.Playing.{left_out, gone-le, gone-small}
 use borrow.Author.Rules.{rules}
