@@ -20,16 +20,21 @@ struct Decoding {
 
 impl Coder for Decoding {
     ghost use Rattle.std.specs.Prelude.{◌≡◌, ℕ};
-    ghost use Rattle.laws.specs.Answers.{gives};
+    ghost use Rattle.laws.specs.Answers.{gives, refuses};
     ghost use Rattle.codec.specs.Answers.{progress_of};
+    ghost use Rattle.codec.specs.Errors.{error_number};
     ghost use Rattle.sbc_decoder.specs.Decode.{decode, finish};
 
     // What a decode call says.
     ghost codes = { λ old bytes used new. (produced : ℕ) × (decode old.decoder bytes old.samples
         ≡ record { answer = gives (progress_of used produced); decoder = new.decoder; output = new.samples }) };
 
-    // The decoder is told that its input ends.
-    ghost ends = { λ old new. new.decoder ≡ finish old.decoder };
+    // A decode call's refusal.
+    ghost refuses = { λ old bytes error new. decode old.decoder bytes old.samples
+        ≡ record { answer = refuses (error_number error); decoder = new.decoder; output = new.samples } };
+
+    // The decoder is told that its input ends, and the buffers stay as they are.
+    ghost ends = { λ old new. new ≡ record old { decoder = finish old.decoder } };
 
     fn code(&mut self, rt: &impl Print, bytes: &[u8]) -> Result<usize, Stop> {
         let progress = self.decoder.decode(bytes, &mut self.samples)?;

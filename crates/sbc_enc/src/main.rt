@@ -30,8 +30,9 @@ struct Encoding {
 
 impl Coder for Encoding {
     ghost use Rattle.std.specs.Prelude.{◌≡◌, ◌*◌, ◌/◌, ℕ, min, take, length};
-    ghost use Rattle.laws.specs.Answers.{gives};
+    ghost use Rattle.laws.specs.Answers.{gives, refuses};
     ghost use Rattle.codec.specs.Answers.{progress_of};
+    ghost use Rattle.codec.specs.Errors.{error_number};
     ghost use Rattle.pcm.specs.Samples.{samples_in};
     ghost use Rattle.sbc_encoder.specs.Encode.{encode};
 
@@ -41,11 +42,16 @@ impl Coder for Encoding {
         × (encode old.encoder (samples_in count (take (2 * count) raw)) old.frames
         ≡ record { answer = gives (progress_of consumed produced); encoder = new.encoder; output = new.frames }) };
 
+    // An encode call's refusal.
+    ghost refuses = { λ old raw error new. let count = min (length raw / 2) (length old.samples) in
+        encode old.encoder (samples_in count (take (2 * count) raw)) old.frames
+        ≡ record { answer = refuses (error_number error); encoder = new.encoder; output = new.frames } };
+
     // Samples that do not fill a frame are left out, so that nothing changes.
     ghost ends = { λ old new. new ≡ old };
 
     fn code(&mut self, rt: &impl Print, raw: &[u8]) -> Result<usize, Stop> {
-        let progress = encode(&mut self.encoder, raw, &mut self.samples, &mut self.frames)?;
+        let progress = self.encode(raw)?;
         rt.write_all(&self.frames[..progress.produced])?;
         Ok(2 * progress.consumed)
     }
@@ -53,21 +59,17 @@ impl Coder for Encoding {
     fn finish(&mut self) {}
 }
 
-// Encodes the samples of the raw bytes, as many as there is room for.
-fn encode(
-    encoder: &mut SbcEncoder,
-    raw: &[u8],
-    samples: &mut [i16],
-    frames: &mut [u8],
-) -> Result<Progress, Error>
-    ensures { let count = min (length raw.now / 2) (length samples.old) in
-        told_encoded result encoder.new frames.new
-        ≡ encode encoder.old (samples_in count (take (2 * count) raw.now)) frames.old }
-{
-    let count = (raw.len() / 2).min(samples.len());
-    let samples = &mut samples[..count];
-    pcm::read(&raw[..2 * count], samples);
-    encoder.encode(samples, frames)
+impl Encoding {
+    // Encodes the samples of the raw bytes, as many as there is room for.
+    fn encode(&mut self, raw: &[u8]) -> Result<Progress, Error>
+        ensures { let count = min (length raw.now / 2) (length self.old.samples) in
+            told_encoded result self.new.encoder self.new.frames
+            ≡ encode self.old.encoder (samples_in count (take (2 * count) raw.now)) self.old.frames }
+    {
+        let count = (raw.len() / 2).min(self.samples.len());
+        pcm::read(&raw[..2 * count], &mut self.samples[..count]);
+        self.encoder.encode(&self.samples[..count], &mut self.frames)
+    }
 }
 
 fn encode_all(rt: &(impl Env + AllocGlobal + Input + Print)) -> Result<(), Stop> {

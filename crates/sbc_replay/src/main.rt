@@ -17,7 +17,7 @@
 
 mod end;
 
-ghost use Rattle.std.specs.Prelude.{◌≡◌, ◌*◌, ◌≤◌, IfOk, length};
+ghost use Rattle.std.specs.Prelude.{◌≤◌, IfOk};
 
 use codec::{Error, Progress};
 use end::End;
@@ -44,6 +44,8 @@ struct Replay<R, W> {
 }
 
 // The set of nine bytes; a mode or an allocation past the last counts as the last.
+//
+// Kept: no `From`, here and in `bytes_of`, since neither type is of this crate.
 fn set_of(bytes: [u8; 9]) -> SbcParameters {
     let [a, b, c, d, mode, allocation, blocks, subbands, bitpool] = bytes;
     SbcParameters {
@@ -74,10 +76,7 @@ fn bytes_of(set: SbcParameters) -> [u8; 9] {
 }
 
 fn error_byte<T: Copy>(answer: Result<T, Error>) -> u8 {
-    match answer {
-        Ok(_) => 0,
-        Err(error) => u8::from(error),
-    }
+    answer.err().map_or(0, u8::from)
 }
 
 impl<R: Read + Drop, W: Write + Drop> Replay<R, W> {
@@ -96,11 +95,11 @@ impl<R: Read + Drop, W: Write + Drop> Replay<R, W> {
     fn length(&mut self) -> Result<usize, End>
         ensures { IfOk result (λ n. n ≤ LONGEST) }
     {
-        let n = u32::from_le_bytes(self.next()?) as usize;
-        if n > LONGEST {
-            return Err(End::Input);
-        }
-        Ok(n)
+        let n = u32::from_le_bytes(self.next()?);
+        usize::try_from(n)
+            .ok()
+            .filter(|n| *n <= LONGEST)
+            .ok_or(End::Input)
     }
 
     fn answer(&mut self, bytes: &[u8]) -> Result<(), End> {
@@ -110,10 +109,7 @@ impl<R: Read + Drop, W: Write + Drop> Replay<R, W> {
 
     // What a call consumed and produced.
     fn answer_coded(&mut self, coded: Result<Progress, Error>) -> Result<(), End> {
-        let progress = coded.unwrap_or(Progress {
-            consumed: 0,
-            produced: 0,
-        });
+        let progress = coded.unwrap_or(Progress::new(0, 0));
         self.answer(&[error_byte(coded)])?;
         self.answer(&progress.consumed.to_le_bytes())?;
         self.answer(&progress.produced.to_le_bytes())
@@ -122,8 +118,8 @@ impl<R: Read + Drop, W: Write + Drop> Replay<R, W> {
     fn parse(&mut self) -> Result<(), End> {
         let count = usize::from(u16::from_le_bytes(self.next()?));
         let mut bytes = vec![in self.alloc; 0u8; count]?;
-        self.fill(bytes.as_mut_slice())?;
-        let parsed = SbcParameters::parse(bytes.as_slice());
+        self.fill(&mut bytes)?;
+        let parsed = SbcParameters::parse(&bytes);
         self.answer(&[error_byte(parsed)])?;
         self.answer(&parsed.map_or([0; 9], bytes_of))
     }
@@ -142,65 +138,35 @@ impl<R: Read + Drop, W: Write + Drop> Replay<R, W> {
         Ok(())
     }
 
+    // The raw buffer is for the samples as they come.
     fn encode(&mut self) -> Result<(), End> {
         let count = self.length()?;
         let room = self.length()?;
         let mut raw = vec![in self.alloc; 0u8; 2 * count]?;
         let mut samples = vec![in self.alloc; 0i16; count]?;
         let mut bytes = vec![in self.alloc; 0u8; room]?;
-        self.encode_by(
-            raw.as_mut_slice(),
-            samples.as_mut_slice(),
-            bytes.as_mut_slice(),
-        )
-    }
-
-    // Encodes by way of the buffers; the raw one is for the samples as they come.
-    fn encode_by(
-        &mut self,
-        raw: &mut [u8],
-        samples: &mut [i16],
-        bytes: &mut [u8],
-    ) -> Result<(), End>
-        requires { length raw.old ≡ 2 * length samples.old }
-    {
-        self.fill(raw)?;
-        self.fill(bytes)?;
-        pcm::read(raw, samples);
-        let coded = self.encoder.encode(samples, bytes);
+        self.fill(&mut raw)?;
+        self.fill(&mut bytes)?;
+        pcm::read(&raw, &mut samples);
+        let coded = self.encoder.encode(&samples, &mut bytes);
         self.answer_coded(coded)?;
-        self.answer(bytes)
+        self.answer(&bytes)
     }
 
+    // The raw buffer is for the samples as they come and go.
     fn decode(&mut self) -> Result<(), End> {
         let count = self.length()?;
         let room = self.length()?;
         let mut bytes = vec![in self.alloc; 0u8; count]?;
         let mut raw = vec![in self.alloc; 0u8; 2 * room]?;
         let mut samples = vec![in self.alloc; 0i16; room]?;
-        self.decode_by(
-            bytes.as_mut_slice(),
-            raw.as_mut_slice(),
-            samples.as_mut_slice(),
-        )
-    }
-
-    // Decodes by way of the buffers; the raw one is for the samples as they come and go.
-    fn decode_by(
-        &mut self,
-        bytes: &mut [u8],
-        raw: &mut [u8],
-        samples: &mut [i16],
-    ) -> Result<(), End>
-        requires { length raw.old ≡ 2 * length samples.old }
-    {
-        self.fill(bytes)?;
-        self.fill(raw)?;
-        pcm::read(raw, samples);
-        let coded = self.decoder.decode(bytes, samples);
-        pcm::write(samples, raw);
+        self.fill(&mut bytes)?;
+        self.fill(&mut raw)?;
+        pcm::read(&raw, &mut samples);
+        let coded = self.decoder.decode(&bytes, &mut samples);
+        pcm::write(&samples, &mut raw);
         self.answer_coded(coded)?;
-        self.answer(raw)
+        self.answer(&raw)
     }
 
     fn seek(&mut self) -> Result<(), End> {
@@ -244,6 +210,8 @@ impl<R: Read + Drop, W: Write + Drop> Replay<R, W> {
     }
 
     // One request.
+    //
+    // Kept: each letter stands here once, beside its step; an enum of the requests would name each three times.
     fn request(&mut self) -> Result<(), End> {
         let [request]: [u8; 1] = self.next()?;
         match request {
@@ -262,7 +230,7 @@ impl<R: Read + Drop, W: Write + Drop> Replay<R, W> {
         }
     }
 
-    // A proved loop has to end, and nothing says that the input does. So the loop counts its turns, up to a number that no run uses up.
+    // Kept: the loop counts its turns, up to a number that no run uses up. A proved loop has to end, and nothing says that the input does.
     fn run(&mut self) -> Result<(), End> {
         for _ in 0..u64::MAX {
             self.request()?;

@@ -7,19 +7,19 @@ use Rattle.sbc_enc.proofs.EncodingCoder.code.Goals as goal
 pub shared_ref_as_front-write_all : goal.shared_ref_as_front-write_all
 shared_ref_as_front-write_all g c =
     let me = c.args.self.now in
-    let fits = told-within me.encoder c.encode.new.encoder c.args.raw.now (length me.samples) me.frames c.encode.new.frames _ c.in_ok-progress.ensures in
+    let fits = told-within me.encoder c.encode.new.self.encoder c.args.raw.now (length me.samples) me.frames c.encode.new.self.frames _ c.in_ok-progress.ensures in
     omega (arith, fits.1)
 
 pub overflow_mul-result : goal.overflow_mul-result
 overflow_mul-result g c =
     let me = c.args.self.now in
-    let fits = told-within me.encoder c.encode.new.encoder c.args.raw.now (length me.samples) me.frames c.encode.new.frames _ c.in_ok-progress.ensures in
+    let fits = told-within me.encoder c.encode.new.self.encoder c.args.raw.now (length me.samples) me.frames c.encode.new.self.frames _ c.in_ok-progress.ensures in
     omega (arith, fits.0)
 
 pub returns-clause-within : goal.returns-clause-within
 returns-clause-within g c =
     let me = c.args.self.now in
-    (told-within me.encoder c.encode.new.encoder c.args.raw.now (length me.samples) me.frames c.encode.new.frames _ c.in_ok-progress.ensures).0
+    (told-within me.encoder c.encode.new.self.encoder c.args.raw.now (length me.samples) me.frames c.encode.new.self.frames _ c.in_ok-progress.ensures).0
 
 pub returns-clause-coded : goal.returns-clause-coded
 unfolding progress_of
