@@ -68,7 +68,8 @@ impl Encoding {
     {
         let count = (raw.len() / 2).min(self.samples.len());
         pcm::read(&raw[..2 * count], &mut self.samples[..count]);
-        self.encoder.encode(&self.samples[..count], &mut self.frames)
+        self.encoder
+            .encode(&self.samples[..count], &mut self.frames)
     }
 }
 

@@ -7,21 +7,16 @@ pub fn differing(ours: &[i16], theirs: &[i16]) -> usize
     requires { length ours.now ≡ length theirs.now }
     ensures { result ≡ differing ours.now theirs.now }
 {
-    let mut count = 0;
-    for (a, b) in ours.iter().zip(theirs) {
-        count += usize::from(a.abs_diff(*b) != 0);
-    }
-    count
+    ours.iter().zip(theirs).filter(|(a, b)| a != b).count()
 }
 
-// The greatest distance.
+// The greatest distance, 0 of no samples.
 pub fn farthest(ours: &[i16], theirs: &[i16]) -> u16
     requires { length ours.now ≡ length theirs.now }
     ensures { result ≡ farthest ours.now theirs.now }
 {
-    let mut top = 0u16;
-    for (a, b) in ours.iter().zip(theirs) {
-        top = top.max(a.abs_diff(*b));
-    }
-    top
+    ours.iter()
+        .zip(theirs)
+        .map(|(a, b)| a.abs_diff(*b))
+        .fold(0, u16::max)
 }

@@ -73,11 +73,6 @@ fn allocation(rt: &impl Print, label: &str, bitpool: u8, factors: [u8; 8]) -> io
     println!(rt; "{label} {a} {b} {c} {d} {e}")
 }
 
-fn holds(rt: &impl Print, label: &str, is_so: bool) -> io::Result<()> {
-    let verdict = Verdict(is_so);
-    println!(rt; "{label} {verdict}")
-}
-
 fn with_bitpool(
     channel_mode: SbcChannelMode,
     blocks: u8,
@@ -147,18 +142,19 @@ fn show_shares(rt: &impl Print) -> io::Result<()> {
     allocation(rt, "0 3 3 0 of 64", 64, [0, 3, 3, 0, 0, 0, 0, 0])
 }
 
-// Kept: no table of rows here: each call's arguments are shown to be in range where they stand.
 fn show_reconstructed(rt: &impl Print) -> io::Result<()> {
-    holds(rt, "f 0 b 2 q 0: -1365", reconstruct(0, 0, 2) == -1365)?;
-    holds(rt, "f 0 b 2 q 1: 0", reconstruct(1, 0, 2) == 0)?;
-    holds(rt, "f 0 b 2 q 2: 1365", reconstruct(2, 0, 2) == 1365)?;
-    holds(rt, "f 0 b 2 q 3: 2730", reconstruct(3, 0, 2) == 2730)?;
-    holds(rt, "f 15 b 1 q 0: 0", reconstruct(0, 15, 1) == 0)?;
-    holds(
-        rt,
-        "f 15 b 1 q 1: 134217728",
-        reconstruct(1, 15, 1) == 134217728,
-    )
+    for (factor, bits, quantized, sample) in [
+        (0, 2, 0, -1365),
+        (0, 2, 1, 0),
+        (0, 2, 2, 1365),
+        (0, 2, 3, 2730),
+        (15, 1, 0, 0),
+        (15, 1, 1, 134217728),
+    ] {
+        let verdict = Verdict(reconstruct(quantized, factor, bits) == sample);
+        println!(rt; "f {factor} b {bits} q {quantized}: {sample} {verdict}")?;
+    }
+    Ok(())
 }
 
 fn show_quantized(rt: &impl Print) -> io::Result<()> {
@@ -170,9 +166,15 @@ fn show_quantized(rt: &impl Print) -> io::Result<()> {
 }
 
 fn show_factors(rt: &impl Print) -> io::Result<()> {
-    holds(rt, "maximum 8191: 0", scale_factor(8191) == 0)?;
-    holds(rt, "maximum 8192: 1", scale_factor(8192) == 1)?;
-    holds(rt, "maximum 2^27: 15", scale_factor(134217728) == 15)
+    for (name, maximum, factor) in [
+        ("8191", 8191, 0),
+        ("8192", 8192, 1),
+        ("2^27", 134217728, 15),
+    ] {
+        let verdict = Verdict(scale_factor(maximum) == factor);
+        println!(rt; "maximum {name}: {factor} {verdict}")?;
+    }
+    Ok(())
 }
 
 pub fn show_all(rt: &impl Print) -> io::Result<()> {
