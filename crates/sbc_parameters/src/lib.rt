@@ -1,7 +1,7 @@
 // The parameters of an SBC stream: which sets are accepted, the sizes of a frame, and its header.
 #![tactic(auto)]
 
-ghost use Rattle.std.specs.Prelude.{◌≡◌, ◌+◌, ◌*◌, ◌<◌, ◌≤◌, false, IfOk, IfErr};
+ghost use Rattle.std.specs.Prelude.{◌≡◌, ◌+◌, ◌*◌, ◌<◌, ◌≤◌};
 ghost use Rattle.laws.specs.Lists.{all_of};
 ghost use Rattle.codec.specs.Answers.{told};
 ghost use Rattle.sbc_parameters.specs.Parameters.{high_quality, msbc, channels, maximum_bitpool, is_msbc, field_tests, accepted, validate};
@@ -143,13 +143,6 @@ impl SbcParameters {
     {
         AcceptedSet::try_from(self)?;
         Ok(())
-    }
-
-    pub fn accepted(self) -> Result<AcceptedSet, Error>
-        ensures ok { IfOk result (λ taken. taken.set ≡ self) }
-        ensures err { IfErr result (λ error. (error ≡ Error.InvalidParameter) × (accepted self ≡ false)) }
-    {
-        AcceptedSet::try_from(self)
     }
 
     #[tactic(auto, unfolding(crate::specs::Parameters::accepted))]
