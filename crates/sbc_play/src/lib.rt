@@ -92,6 +92,8 @@ fn play_channel(
 }
 
 // All channels of a frame. A history of a channel that the frame does not have stays as it is.
+// Kept: that the output has room for a frame, in three contracts, here, of `decode_frame` and of the decoder's `play`; no plainer
+// otherwise: a struct that held the loan would be made by the first and taken apart here, with nothing to do between.
 pub fn play_frame(histories: &mut [Synthesis; 2], samples: &Samples, output: &mut [i16])
     requires { frame_samples samples.now.accepted.set ≤ length output.old }
     ensures histories { histories.new ≡ histories_after samples.now.accepted.set histories.old samples.now.channels }
