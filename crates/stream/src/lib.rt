@@ -12,6 +12,9 @@ pub use running::{Coder, Stop, run, told};
 use std::io::Read;
 
 // A part of a stream: the bytes that are held, and behind them the room for those that come next.
+//
+// Kept: the number held beside the bytes. std's BufReader holds both, but reads on only when all that it holds is taken, and a coder may
+// have to see more of a frame before it takes any of it.
 #[derive(Drop)]
 pub struct Buffer<'a> {
     bytes: &'a mut [u8],
