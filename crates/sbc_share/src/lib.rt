@@ -136,16 +136,13 @@ fn first_with_room(bits: &[u8]) -> Option<usize>
     bits.iter().position(|bits| *bits < 16)
 }
 
-// One bit more for the first of n with fewer than 16.
-fn last_bit(bits: [u8; 16], n: usize) -> [u8; 16]
-    requires { n ≤ 16 }
-    ensures { result ≡ last_bit 1 (take n bits) ++ drop n bits }
+// One bit more for the first with fewer than 16.
+fn last_bit(bits: &mut [u8])
+    ensures { bits.new ≡ last_bit 1 bits.old }
 {
-    let mut out = bits;
-    if let Some(first) = first_with_room(&out[..n]) {
-        out[first] += 1;
+    if let Some(first) = first_with_room(bits) {
+        bits[first] += 1;
     }
-    out
 }
 
 // The bits of a group, by its needs; zeros stand behind them.
@@ -157,10 +154,9 @@ pub fn share_bits(needs: &[u32], bitpool: u32) -> [u8; 16]
     let group = Group { needs, bitpool };
     let level = group.level_of();
     let left = bitpool.saturating_sub(group.base_total(level));
-    let bits = group.round_bits(level, left);
+    let mut bits = group.round_bits(level, left);
     if sum_of(&bits) < bitpool {
-        last_bit(bits, needs.len())
-    } else {
-        bits
+        last_bit(&mut bits[..needs.len()]);
     }
+    bits
 }

@@ -43,7 +43,7 @@ module _ (ns : List ℕ) (bitpool at : ℕ) (is : lowered at ≡ level_of (map l
 pub returns-then-sum_of-bitpool : goal.returns-then-sum_of-bitpool
 returns-then-sum_of-bitpool c =
     let padded = rw (c.saturating_sub-left.ensures, c.base_total.ensures, ← heights_sum base_bits c.level_of-level.result c.args.needs.now) at c.round_bits-bits.ensures in
-    c.last_bit.ensures ∙ less _ _ _ c.level_of-level.ensures _ padded (omega arith)
+    ap (λ (l : List ℕ). l ++ drop (length c.args.needs.now) c.round_bits-bits.result) c.last_bit.ensures ∙ less _ _ _ c.level_of-level.ensures _ padded (omega arith)
 
 pub returns-else-sum_of-bitpool : goal.returns-else-sum_of-bitpool
 returns-else-sum_of-bitpool c =
