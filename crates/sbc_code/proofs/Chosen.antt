@@ -9,7 +9,7 @@ use native.Mathlib.Omega.{arith}
 use lib.Dec.{lit≤, eqb}
 use borrow.Author.Tests.{eqb-true, eqb-false}
 use lib.IntN.{ℤ, pos, nat_abs}
-use lib.ListN.{get_or, get_or-replicate}
+use lib.ListN.{length, get_or, set, get_or-replicate}
 use Rattle.std.specs.Prelude.{if◌then◌else◌}
 use Rattle.laws.specs.Lists.{build, collect, greatest}
 use Rattle.laws.specs.Bits.{digit}
@@ -82,16 +82,28 @@ both-ext : (n : ℕ) (xs ys : ℕ → List (List ℤ)) → ((c : ℕ) → c < 2 
 unfolding factor_rows
 both-ext n xs ys h = build-ext 2 _ _ (λ c k. ap (factors_in n) (h c k))
 
+-- both channels stored, one after the other
+both-stored : (xs : List Blocks) (left right : Blocks) → length xs ≡ 2 → set (set xs 0 left) 1 right ≡ left ∷ right ∷ []
+both-stored [] left right e = absurd (omega arith)
+both-stored (x ∷ []) left right e = absurd (omega arith)
+both-stored (x ∷ y ∷ []) left right e = refl
+both-stored (x ∷ y ∷ z ∷ xs) left right e = absurd (omega arith)
+
+second-kept : (xs : List Blocks) (left : Blocks) → rows_of (set xs 0 left) 1 ≡ rows_of xs 1
+second-kept [] left = refl
+second-kept (x ∷ xs) left = refl
+
 -- each part by those before it
-module _ (p : SbcParameters) (xs js : List Blocks) (same : (c : ℕ) → c < 2 → rows_of js c ≡ joined_samples (rows_of xs) c) where
+module _ (p : SbcParameters) (xs js : List Blocks) (two : length xs ≡ 2)
+    (same : (c : ℕ) → c < 2 → rows_of js c ≡ joined_samples (rows_of xs) c) where
   pub joint_is : {n S : ℕ} {flags : List ℕ} {plain joined factors : List (List ℕ)} {left right : Blocks} → n ≡ p.blocks → S ≡ p.subbands
       → plain ≡ factor_rows n (rows_of xs) → joined ≡ factor_rows n (rows_of js) → flags ≡ join_row S plain joined
       → factors ≡ picked_rows flags plain joined
       → left.rows ≡ with_flagged n flags (sample_at (rows_of js 0)) (rows_of xs 0)
-      → right.rows ≡ with_flagged n flags (sample_at (rows_of js 1)) (rows_of xs 1)
-      → record { flags = flags; factors = factors; samples = left ∷ right ∷ [] } ≡ joint_coding p xs
+      → right.rows ≡ with_flagged n flags (sample_at (rows_of js 1)) (rows_of (set xs 0 left) 1)
+      → record { flags = flags; factors = factors; samples = set (set xs 0 left) 1 right } ≡ joint_coding p xs
   unfolding joint_coding picked_samples build collect
-  joint_is b d pl jo f fs l r =
+  joint_is {n = n} {flags = flags} {left = left} {right = right} b d pl jo f fs l r =
       let plain = pl ∙ (λ i. factor_rows (b i) (rows_of xs)) in
       let joined = jo ∙ (λ i. factor_rows (b i) (rows_of js)) ∙ both-ext p.blocks (rows_of js) (joined_samples (rows_of xs)) same in
       let e = f ∙ (λ i. join_row (d i) (plain i) (joined i)) in
@@ -99,8 +111,10 @@ module _ (p : SbcParameters) (xs js : List Blocks) (same : (c : ℕ) → c < 2 �
       let second = same 1 (omega arith) in
       let k = fs ∙ (λ i. picked_rows (e i) (plain i) (joined i)) in
       let l' = l ∙ (λ i. with_flagged (b i) (e i) (sample_at (first i)) (rows_of xs 0)) in
-      let r' = r ∙ (λ i. with_flagged (b i) (e i) (sample_at (second i)) (rows_of xs 1)) in
-      λ i. record { flags = e i; factors = k i; samples = record { rows = l' i } ∷ record { rows = r' i } ∷ [] }
+      let r' = r ∙ (λ i. with_flagged n flags (sample_at (rows_of js 1)) (second-kept xs left i))
+      ∙ (λ i. with_flagged (b i) (e i) (sample_at (second i)) (rows_of xs 1)) in
+      let s = both-stored xs left right two ∙ (λ i. record { rows = l' i } ∷ record { rows = r' i } ∷ []) in
+      λ i. record { flags = e i; factors = k i; samples = s i }
 
 -- ---- scale factors
 -- the greatest looks at the first n numbers only

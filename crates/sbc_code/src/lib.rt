@@ -30,8 +30,8 @@ fn pick_factors(flags: &[u8; 8], plain: &Factors, joined: &Factors) -> Factors
 {
     Factors {
         rows: [
-            pick(flags, &plain.rows[0], &joined.rows[0]),
-            pick(flags, &plain.rows[1], &joined.rows[1]),
+            pick(flags, plain.rows[0], joined.rows[0]),
+            pick(flags, plain.rows[1], joined.rows[1]),
         ],
     }
 }
@@ -62,13 +62,13 @@ fn code_joint(accepted: AcceptedSet, samples: &[Blocks; 2]) -> CodedFrame
         &joined_factors,
         usize::from(accepted.set.subbands),
     );
-    let [mut left, mut right] = *samples;
-    pick_samples(&mut left, &joined[0], &flags, blocks);
-    pick_samples(&mut right, &joined[1], &flags, blocks);
+    let mut picked = *samples;
+    pick_samples(&mut picked[0], &joined[0], &flags, blocks);
+    pick_samples(&mut picked[1], &joined[1], &flags, blocks);
     CodedFrame {
         flags,
         factors: pick_factors(&flags, &plain_factors, &joined_factors),
-        samples: [left, right],
+        samples: picked,
     }
 }
 

@@ -62,6 +62,11 @@ module _ (row : ℕ → List ℤ) (xs : List (List ℤ)) where
   unfolding with_rows
   row_out n b h k = get_or-build 16 (row_at n) b [] k ∙ rw (le-ltb b n h)
 
+-- in the end all are
+pub rows_all : (row : ℕ → List ℤ) (n : ℕ) (xs ys : List (List ℤ)) → 16 ≤ n → ys ≡ with_rows n row xs → ys ≡ build 16 row
+unfolding with_rows
+rows_all row n xs ys h e = e ∙ build-ext 16 (row_at row xs n) row (λ b k. rw (lt-ltb b n (omega arith)))
+
 -- the same rows, of the array and of one whose rows are replaced already
 pub rows_ext : (n : ℕ) (p q : ℕ → List ℤ) (xs : List (List ℤ)) → ((b : ℕ) → b < n → p b ≡ q b) → with_rows n p xs ≡ with_rows n q xs
 unfolding with_rows

@@ -43,24 +43,12 @@ pub fn join(samples: &[Blocks; 2]) -> [Blocks; 2]
     ensures { (c : ℕ) → c < 2 → rows_of result c ≡ joined_samples (rows_of samples.now) c }
 {
     let [left, right] = samples;
-    [
-        Blocks {
-            rows: array::from_fn(
-                |b: usize| -> [i32; 8]
-                    requires { b < 16 }
-                    ensures { result ≡ half_sums (get_or left.entry.now.rows b []) (get_or right.entry.now.rows b []) }
-                { half_sums(&left.rows[b], &right.rows[b]) },
-            ),
-        },
-        Blocks {
-            rows: array::from_fn(
-                |b: usize| -> [i32; 8]
-                    requires { b < 16 }
-                    ensures { result ≡ half_differences (get_or left.entry.now.rows b []) (get_or right.entry.now.rows b []) }
-                { half_differences(&left.rows[b], &right.rows[b]) },
-            ),
-        },
-    ]
+    let mut joined = [Blocks { rows: [[0; 8]; 16] }; 2];
+    for b in 0..16 {
+        joined[0].rows[b] = half_sums(&left.rows[b], &right.rows[b]);
+        joined[1].rows[b] = half_differences(&left.rows[b], &right.rows[b]);
+    }
+    joined
 }
 
 // The scale factors of a subband in both channels, added.
@@ -79,14 +67,15 @@ pub fn join_flags(plain: &Factors, joined: &Factors, subbands: usize) -> [u8; 8]
 }
 
 // The joined entry where a flag is set. The closure says what it gives: the check does not read that off the body of a generic one.
-pub fn pick<T: Copy>(flags: &[u8; 8], plain: &[T; 8], joined: &[T; 8]) -> [T; 8]
-    ensures { (d : T) → result ≡ picked_row d flags.now plain.now joined.now }
+// The rows come by value: of lent ones the compiler would choose a place for each entry, 18 instructions more a row.
+pub fn pick<T: Copy>(flags: &[u8; 8], plain: [T; 8], joined: [T; 8]) -> [T; 8]
+    ensures { (d : T) → result ≡ picked_row d flags.now plain joined }
 {
     array::from_fn(
         |s: usize| -> T
             requires { s < 8 }
             ensures { (d : T) → result
-                ≡ (if eqb (entry flags.entry.now s) 1 then get_or joined.entry.now s d else get_or plain.entry.now s d) }
+                ≡ (if eqb (entry flags.entry.now s) 1 then get_or joined s d else get_or plain s d) }
         { if flags[s] == 1 { joined[s] } else { plain[s] } },
     )
 }
@@ -96,6 +85,6 @@ pub fn pick_samples(samples: &mut Blocks, joined: &Blocks, flags: &[u8; 8], bloc
     ensures { samples.new.rows ≡ with_flagged blocks.count flags.now (sample_at joined.now.rows) samples.old.rows }
 {
     for block in 0..blocks.count {
-        samples.rows[block] = pick(flags, &samples.rows[block], &joined.rows[block]);
+        samples.rows[block] = pick(flags, samples.rows[block], joined.rows[block]);
     }
 }
