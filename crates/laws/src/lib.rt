@@ -60,6 +60,7 @@ pub fn find(value: u32, values: &[u32]) -> Option<usize>
 }
 
 // The place of a value in a list, or the list's length where it is not in it.
+// Kept: a number and no Option, since this public function could never fail; `find`, beside it, gives the Option.
 #[tactic(auto, using(crate::proofs::Tests::unlisted), unfolding(crate::specs::Lists::listed))]
 pub fn index_of(value: u32, values: &[u32]) -> usize
     ensures { result ≡ index_of value values.now }

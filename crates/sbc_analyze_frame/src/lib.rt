@@ -19,6 +19,8 @@ use sbc_parameters::AcceptedSet;
 use sbc_tables::{Bank, Eight, Four};
 
 // A channel's samples of one block.
+// Kept: places computed from the block, the sample and the channel, since the samples of two channels alternate in PCM; and the input with
+// its channel beside it, and what it has to hold, from here to `analyze_channel`: a struct of both would hold the loan, for these four alone.
 fn pcm_block<B: Bank>(input: &[i16], block: usize, channel: PcmChannel) -> [i16; 8]
     requires { (block + 1) * B.SUBBANDS * channel.count ≤ length input.now }
     ensures { result

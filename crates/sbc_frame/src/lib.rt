@@ -39,6 +39,7 @@ pub struct Factors {
 }
 
 // How a channel's values are quantized: the bits of a value and the scale factor, by subband.
+// Kept: two rows and no row of pairs: `allocate` gives the one, a frame has the other, and no one asks for a pair before it is used.
 #[derive(Clone, Copy)]
 pub struct Quantization {
     pub widths: [u8; 8],
@@ -48,7 +49,8 @@ pub struct Quantization {
 }
 
 // What is coded of a frame: join flags by subband, scale factors, and the samples of both channels.
-// Kept: the flags are 0 and 1 in a row of numbers, since the functions that write and read the scale factors write and read them too.
+// Kept: the flags are 0 and 1 in a row of numbers, since the functions that write and read the scale factors write and read them too; a
+// row of bools would be made of numbers by the one side and turned into numbers by the other, for two tests in between.
 #[derive(Clone, Copy)]
 pub struct CodedFrame {
     pub flags: [u8; 8],

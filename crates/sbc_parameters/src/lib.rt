@@ -225,7 +225,7 @@ impl SbcParameters {
     {
         let factors = usize::from(self.subbands) * usize::from(self.channels());
         let audio = self.join_count() + usize::from(self.blocks) * self.block_bits();
-        HEADER_SIZE + factors / 2 + (audio + 7) / 8
+        HEADER_SIZE + factors / 2 + audio.div_ceil(8)
     }
 
     // The samples of one channel in a frame: blocks times subbands.

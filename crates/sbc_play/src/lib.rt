@@ -17,6 +17,8 @@ use sbc_synthesize::synthesize_by;
 use sbc_tables::{Bank, Eight, Four};
 
 // A block's PCM into a channel's places.
+// Kept: places computed from the block, the sample and the channel, since the samples of two channels alternate in PCM; and the output with
+// its channel beside it, and what room it has, from here to `play_channel`: a struct of both would hold the loan, for these four alone.
 fn put_block<B: Bank>(output: &mut [i16], pcm: &[i16; 8], block: usize, channel: PcmChannel)
     requires { (block + 1) * B.SUBBANDS * channel.count ≤ length output.old }
     ensures { output.new
@@ -29,6 +31,8 @@ fn put_block<B: Bank>(output: &mut [i16], pcm: &[i16; 8], block: usize, channel:
 }
 
 // One block of a channel.
+// Kept: that its samples are small, here and of the blocks in the two functions above it: `Samples` says it of a frame, and each of these
+// has a part of one.
 fn play_block<B: SynthesisBank>(
     history: &mut Synthesis,
     samples: &[i32; 8],

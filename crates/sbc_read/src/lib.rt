@@ -60,6 +60,7 @@ fn number_at(bytes: &[u8; 528], position: usize, count: u8) -> u32
 }
 
 // `count` numbers of `width` bits each, end to end from `position` on.
+// Kept: a row of eight and how many of them count, since the codec keeps to fixed memory.
 fn read_row(bytes: &[u8; 528], position: usize, width: u8, count: usize) -> [u8; 8]
     requires { (0 < width) × (width ≤ 4) × (count ≤ 8) × (position + count * width ≤ 4192) }
     ensures { result ≡ row_at bytes.now position width count }
@@ -91,6 +92,7 @@ impl Values {
     }
 
     // The samples of the channel, in place of zeros. A subband of 0 bits has no values, and its samples stay 0.
+    // Kept: `at` beside the range, here and `position` in `read_channels`: a sum of widths, and no index.
     fn read(&self, samples: &mut Blocks, bytes: &[u8; 528])
         requires { samples.old.rows ≡ no_samples }
         ensures { let q = self.now.quantization in let n = self.now.blocks.count in
@@ -146,6 +148,8 @@ fn read_channels(accepted: AcceptedSet, bytes: &[u8; 528], factors: &Factors) ->
 }
 
 // Sum and difference of one subband, in place of its samples.
+// Kept: that the subband is below 8, here, in `read_subband` and in sbc_join's `cost`: each is called where a loop over a row's eight entries
+// says it; a type of such a number would be made there and taken apart here.
 fn join_subband(channels: &mut [Blocks; 2], subband: usize, blocks: BlockCount)
     requires low { subband < 8 }
     requires long { (c : ℕ) → c < 2 → length (rows_of channels.old c) ≡ 16 }

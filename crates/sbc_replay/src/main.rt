@@ -75,6 +75,7 @@ fn bytes_of(set: SbcParameters) -> [u8; 9] {
     ]
 }
 
+// The error byte of an answer. Kept: 0 for none, as the format of the output has it.
 fn error_byte<T: Copy>(answer: Result<T, Error>) -> u8 {
     answer.err().map_or(0, u8::from)
 }
@@ -194,6 +195,7 @@ impl<R: Read + Drop, W: Write + Drop> Replay<R, W> {
         self.answer(&last.map_or([0; 9], bytes_of))
     }
 
+    // Kept: this and the two resets differ in one call, two lines each; a function that took the call would be longer than all three.
     fn finish(&mut self) -> Result<(), End> {
         self.decoder.finish();
         self.answer(&[0])

@@ -44,7 +44,8 @@ impl<'a> Buffer<'a> {
     // Reads once from the reader, behind the bytes that are held, which stay, and answers how many came: none at the end, or where a read
     // fails. Those that came are held too, and are the reader's next, where its bytes are known; which a program's input gives is the outside's.
     //
-    // Kept: a number and no Result, since the programs count a read that fails as the end of their input.
+    // Kept: a number and no Result, since the programs count a read that fails as the end of their input, and this public call could never
+    // fail.
     pub fn read_on<R: Read>(&mut self, reader: &mut R) -> usize
         ensures came { self.new.held ≡ self.old.held + result }
         ensures same { self.new.bytes.ghost_name ≡ self.old.bytes.ghost_name }

@@ -61,6 +61,7 @@ pub trait Coder {
     ghost ends: { Self → Self → Type 0 };
 
     // Takes some of the bytes, from their front, and answers how many: none where it has to see more of them.
+    // Kept: 0 and no Option, as std's `read` answers: a count of none says that none were taken.
     fn code(&mut self, rt: &impl Print, bytes: &[u8]) -> Result<usize, Stop>
         ensures within { IfOk result (λ used. used ≤ length bytes.now) }
         ensures coded { IfOk result (λ used. codes self.old bytes.now used self.new) }
