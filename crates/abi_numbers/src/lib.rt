@@ -2,9 +2,10 @@
 // mode, the allocation and a refusal are numbers here; numbers that stand for nothing are not accepted.
 #![tactic(auto)]
 
-ghost use Rattle.std.specs.Prelude.{◌≡◌, true, false, IfSome, IfNone};
+ghost use Rattle.std.specs.Prelude.{◌≡◌, true, false, IfSome, IfNone, IfOk, IfErr};
 ghost use Rattle.sbc_parameters.specs.Sizes.{frame_length, frame_samples};
 ghost use Rattle.codec.specs.Answers.{told};
+ghost use Rattle.codec.specs.declared.Error.TheVariants.{InvalidParameter};
 ghost use Rattle.abi_numbers.specs.Numbers.{is_set, parameters_in, numbers_of, no_numbers, is_accepted, size_in};
 ghost use Rattle.abi_numbers.specs.Numbers.{parsed_numbers, coded_numbers};
 
@@ -13,6 +14,7 @@ use sbc_modes::{SbcAllocation, SbcChannelMode};
 use sbc_parameters::{AcceptedSet, SbcParameters};
 
 // The parameters of a stream: the mode and the allocation by their numbers in the header.
+// Kept: the two are numbers here and no enums, since no enum may cross to C; `SbcParameters` has the enums.
 #[repr(C)]
 #[derive(Clone, Copy, Debug, PartialEq, Eq)]
 pub struct ParameterNumbers {
@@ -46,6 +48,7 @@ pub struct ParsedNumbers {
 
 impl ParameterNumbers {
     // In the place of parameters where there are none.
+    // Kept: no Option, which C doesn't have: zeros are what C reads there.
     pub const NONE: ParameterNumbers = ParameterNumbers {
         sample_rate: 0,
         channel_mode: 0,
@@ -72,7 +75,8 @@ impl ParameterNumbers {
     }
 
     // The parameters that the numbers stand for.
-    // Kept: no From, as at a mode's number (sbc_modes): numbers that are none of a mode give one too.
+    // Kept: beside the TryFrom below, which refuses numbers that stand for none: this one is public and could not fail. No
+    // From, as at a mode's number (sbc_modes): numbers that are none of a mode give one too.
     #[tactic(auto, unfolding(crate::specs::Numbers::parameters_in))]
     pub fn parameters(self) -> SbcParameters
         ensures { result ≡ parameters_in self }
@@ -92,7 +96,7 @@ impl ParameterNumbers {
     pub fn is_accepted(self) -> bool
         ensures { result ≡ is_accepted self }
     {
-        self.is_set() && AcceptedSet::try_from(self.parameters()).is_ok()
+        self.accepted().is_some()
     }
 
     // The parameters that the numbers stand for, where they are accepted.
@@ -101,12 +105,8 @@ impl ParameterNumbers {
         ensures some { IfSome result (λ taken. (is_accepted self ≡ true) × (taken.set ≡ parameters_in self)) }
         ensures none { IfNone result (is_accepted self ≡ false) }
     {
-        if !self.is_accepted() {
-            return None;
-        }
-        Some(AcceptedSet {
-            set: self.parameters(),
-        })
+        let set = SbcParameters::try_from(self).ok()?;
+        AcceptedSet::try_from(set).ok()
     }
 
     // The bytes of a frame; 0 where the parameters are not accepted.
@@ -124,6 +124,21 @@ impl ParameterNumbers {
         ensures { result ≡ size_in frame_samples self }
     {
         self.accepted().map_or(0, |taken| taken.set.frame_samples())
+    }
+}
+
+// The parameters that the numbers stand for, where the mode and the allocation are numbers of one.
+impl TryFrom<ParameterNumbers> for SbcParameters {
+    type Error = Error;
+
+    ghost try_from_gives = { λ n r. IfOk r (λ set. (is_set n ≡ true) × (set ≡ parameters_in n))
+        × IfErr r (λ error. (error ≡ InvalidParameter) × (is_set n ≡ false)) };
+
+    fn try_from(numbers: ParameterNumbers) -> Result<SbcParameters, Error> {
+        if numbers.is_set() {
+            return Ok(numbers.parameters());
+        }
+        Err(Error::InvalidParameter)
     }
 }
 
@@ -145,6 +160,8 @@ impl From<SbcParameters> for ParameterNumbers {
 }
 
 // The numbers of what a decode or encode call answers.
+// Kept: this, the next one and the one of a seek (abi_decoder) each fill another struct, field by field; one for all three
+// would take both arms from its caller, and is no plainer.
 impl From<Result<Progress, Error>> for CodedNumbers {
     ghost from_gives = { λ answer numbers. numbers ≡ coded_numbers (told answer) };
 
