@@ -8,23 +8,24 @@ use native.Mathlib.Omega.{arith}
 use lib.ListN.{length, get_or, set, replicate, get_or-replicate}
 use lib.Seq.{get_or-set_same, get_or-set_other}
 use lib.IntN.{ℤ, pos}
-use Rattle.std.specs.Prelude.{map}
+use Rattle.std.specs.Prelude.{map, ltb, if◌then◌else◌}
+use Rattle.laws.specs.Lists.{build}
 use Rattle.std.proofs.lemmas.List.{map-set, get_or-map, length-map}
-use Rattle.sbc_parameters.specs.declared.SbcParameters.{SbcParameters}
-use Rattle.sbc_parameters.specs.Parameters.{channels}
-use Rattle.sbc_parameters.specs.Sizes.{samples_per_channel}
 use Rattle.sbc_filterbank.specs.declared.analysis.Analysis.{Analysis}
 use Rattle.sbc_filterbank.proofs.ByChannel.{replaced, length-replaced, not-replaced, next_replaced}
 use Rattle.sbc_frame.specs.declared.blocks.Blocks.{Blocks}
 use Rattle.sbc_frame.specs.Arrays.{rows_of, no_samples, samples_array}
-use Rattle.sbc_frame.specs.Channels.{pcm_in, channel_pcm, no_analysis, analyze_blocks, analysis_after}
-use Rattle.sbc_frame.specs.Encoding.{channel_samples, analysis_histories}
+use Rattle.sbc_frame.specs.Channels.{pcm_in, no_analysis, analyze_blocks, analysis_after}
 
--- ---- the histories
-module _ (p : SbcParameters) (H : List (List ℤ)) (input : List ℤ) where
+-- ---- the histories: of k blocks of S samples, of C channels
+module _ (k S C : ℕ) (H : List (List ℤ)) (input : List ℤ) where
   -- that of channel c after the frame
   abbrev pub history_after : ℕ → List ℤ
-  history_after c = analysis_after p.blocks p.subbands (get_or H c no_analysis) (channel_pcm p input c)
+  history_after c = analysis_after k S (get_or H c no_analysis) (pcm_in C c (k * S) input)
+
+  -- and its samples
+  abbrev pub samples_of : ℕ → List (List ℤ)
+  samples_of c = samples_array k (analyze_blocks k S (get_or H c no_analysis) (pcm_in C c (k * S) input))
 
   module _ (n : ℕ) (hs : List Analysis) (d : Analysis) (e : map (λ a. a.history) hs ≡ replaced history_after no_analysis H n)
       (there : n < 2) where
@@ -36,29 +37,18 @@ module _ (p : SbcParameters) (H : List (List ℤ)) (input : List ℤ) where
         ∙ ap (λ (l : List (List ℤ)). get_or l n no_analysis) e ∙ not-replaced history_after no_analysis H n there
 
     -- and is moved where it stands
-    pub channel-moved : (y : Analysis) → y.history ≡ analysis_after p.blocks p.subbands (get_or hs n d).history (channel_pcm p input n)
+    pub channel-moved : (y : Analysis) → y.history ≡ analysis_after k S (get_or hs n d).history (pcm_in C n (k * S) input)
         → map (λ a. a.history) (set hs n y) ≡ replaced history_after no_analysis H (n + 1)
     channel-moved y q =
         map-set (λ (a : Analysis). a.history) hs n y
         ∙ next_replaced history_after no_analysis H n (map (λ a. a.history) hs) y.history e
-        (q ∙ ap (λ (X : List ℤ). analysis_after p.blocks p.subbands X (channel_pcm p input n)) history-there)
+        (q ∙ ap (λ (X : List ℤ). analysis_after k S X (pcm_in C n (k * S) input)) history-there)
 
   -- in the end all are
-  pub all-moved : (n : ℕ) (hs : List (List ℤ)) → n ≡ channels p → hs ≡ replaced history_after no_analysis H n
-      → hs ≡ analysis_histories p H input
-  unfolding replaced analysis_histories
+  pub all-moved : (n : ℕ) (hs : List (List ℤ)) → n ≡ C → hs ≡ replaced history_after no_analysis H n
+      → hs ≡ build 2 (λ c. if ltb c C then history_after c else get_or H c no_analysis)
+  unfolding replaced
   all-moved n hs q e = e ∙ ap (replaced history_after no_analysis H) q
-
-  -- as the call for the channel says it
-  module _ (C k S : ℕ) (e : C ≡ channels p) (f : k ≡ p.blocks) (g : S ≡ p.subbands) (n : ℕ) (X : List ℤ) where
-    pub after-given : analysis_after k S X (pcm_in C n (k * S) input) ≡ analysis_after p.blocks p.subbands X (channel_pcm p input n)
-    unfolding channel_pcm samples_per_channel
-    after-given = rw (e, f, g) refl
-
-    pub samples-given : X ≡ get_or H n no_analysis
-        → samples_array k (analyze_blocks k S X (pcm_in C n (k * S) input)) ≡ samples_array p.blocks (channel_samples p H input n)
-    unfolding channel_samples channel_pcm samples_per_channel
-    samples-given q = rw (e, f, g, q) refl
 
 -- ---- the samples: zeros, and one channel more
 pub silent_at : (c : ℕ) → c < 2 → rows_of (replicate 2 (record { rows = replicate 16 (replicate 8 (pos 0)) })) c ≡ no_samples

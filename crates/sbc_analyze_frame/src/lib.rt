@@ -1,21 +1,17 @@
 // PCM to the subband samples of a frame's channels, block by block through each channel's analysis filterbank.
 #![tactic(auto)]
 
-ghost use Rattle.std.specs.Prelude.{ℕ, ◌≡◌, ◌+◌, ◌*◌, ◌≤◌, ◌<◌, length, map, get_or, pos};
+ghost use Rattle.std.specs.Prelude.{ℕ, ◌≡◌, ◌+◌, ◌*◌, ◌≤◌, ◌<◌, ltb, length, map, get_or, pos, if◌then◌else◌};
 ghost use Rattle.laws.specs.Lists.{build};
 ghost use Rattle.laws.specs.Sums.{up_to};
-ghost use Rattle.sbc_parameters.specs.Parameters.{channels};
-ghost use Rattle.sbc_parameters.specs.Sizes.{frame_samples};
 ghost use Rattle.sbc_filterbank.specs.Analysis.{shifted, analysis_outputs};
 ghost use Rattle.sbc_filterbank.specs.Subbands.{Bands, padded};
 ghost use Rattle.sbc_frame.specs.Arrays.{rows_of, no_samples, samples_array};
-ghost use Rattle.sbc_frame.specs.Channels.{pcm_in, analyze_blocks, analysis_after};
-ghost use Rattle.sbc_frame.specs.Encoding.{channel_samples, analysis_histories};
+ghost use Rattle.sbc_frame.specs.Channels.{pcm_in, no_analysis, analyze_blocks, analysis_after};
 
 use sbc_analyze::{AnalysisBank, analyze_by};
 use sbc_filterbank::{Analysis, PcmChannel};
 use sbc_frame::{BlockCount, Blocks};
-use sbc_parameters::AcceptedSet;
 use sbc_tables::{Bank, Eight, Four};
 
 // A channel's samples of one block.
@@ -95,23 +91,27 @@ pub fn analyze_channel(
     analyze_channel_by::<Eight>(history, input, blocks, channel)
 }
 
-// All channels of a frame. Of a channel that the frame does not have the samples are zeros, and the history stays as it is.
+// All channels of a frame, `count` of them. Of a channel that the frame does not have the samples are zeros, and the history stays as it is.
 pub fn analyze_channels(
-    accepted: AcceptedSet,
     histories: &mut [Analysis; 2],
     input: &[i16],
+    blocks: BlockCount,
+    subbands: usize,
+    count: usize,
 ) -> [Blocks; 2]
-    requires { frame_samples accepted.set ≤ length input.now }
-    ensures histories { map (λ a. a.history) histories.new
-        ≡ analysis_histories accepted.set (map (λ a. a.history) histories.old) input.now }
-    ensures samples { (c : ℕ) → c < channels accepted.set
+    requires { (Bands subbands) × (0 < count) × (count ≤ 2) × (blocks.count * subbands * count ≤ length input.now) }
+    ensures histories { let old = map (λ a. a.history) histories.old in
+        map (λ a. a.history) histories.new
+        ≡ build 2 (λ c. if ltb c count
+        then analysis_after blocks.count subbands (get_or old c no_analysis) (pcm_in count c (blocks.count * subbands) input.now)
+        else get_or old c no_analysis) }
+    ensures samples { let old = map (λ a. a.history) histories.old in
+        (c : ℕ) → c < count
         → rows_of result c
-        ≡ samples_array accepted.set.blocks (channel_samples accepted.set (map (λ a. a.history) histories.old) input.now c) }
-    ensures silent { (c : ℕ) → channels accepted.set ≤ c → c < 2 → rows_of result c ≡ no_samples }
+        ≡ samples_array blocks.count
+        (analyze_blocks blocks.count subbands (get_or old c no_analysis) (pcm_in count c (blocks.count * subbands) input.now)) }
+    ensures silent { (c : ℕ) → count ≤ c → c < 2 → rows_of result c ≡ no_samples }
 {
-    let blocks = BlockCount::from(accepted);
-    let subbands = usize::from(accepted.set.subbands);
-    let count = usize::from(accepted.set.channels());
     let mut samples = [Blocks {
         rows: [[0i32; 8]; 16],
     }; 2];

@@ -12,13 +12,14 @@ use lib.Dec.{ltb}
 use lib.IntN.{ℤ}
 use lib.ListN.{length, get_or}
 use borrow.Author.Tests.{ltb-true, ltb-false}
+use Rattle.std.specs.Prelude.{if◌then◌else◌}
 use Rattle.laws.specs.Lists.{collect, build}
 use Rattle.laws.specs.Bits.{odd, digit, bits_of}
 use Rattle.laws.proofs.Lists.{length-build, get_or-build}
 use Rattle.crc8.specs.Checksum.{checksum}
 use Rattle.sbc_parameters.specs.declared.SbcParameters.{SbcParameters}
 use Rattle.sbc_parameters.specs.Parameters.{channels, accepted}
-use Rattle.sbc_parameters.specs.Sizes.{join_count, side_bits, frame_length}
+use Rattle.sbc_parameters.specs.Sizes.{join_count, side_bits, frame_length, samples_per_channel}
 use Rattle.sbc_parameters.specs.Header.{header}
 use Rattle.sbc_parameters.proofs.Accepted.{channels-range, ranges}
 use Rattle.sbc_allocation.specs.Allocate.{allocation_table}
@@ -26,7 +27,8 @@ use Rattle.sbc_quantizer.specs.Quantizing.{quantize}
 use Rattle.sbc_frame.specs.Fields.{Fields, factor_at, value_at, width_at}
 use Rattle.sbc_frame.specs.Layout.{flag_bits, channel_factor_bits, factor_bits, channel_value_bits, block_value_bits, value_bits}
 use Rattle.sbc_frame.specs.Layout.{body_bits, filled, body, pack}
-use Rattle.sbc_frame.specs.Encoding.{sample_at, factor_of, is_joined, coded_at, coded_factors, coded_values, coded_fields}
+use Rattle.sbc_frame.specs.Channels.{pcm_in, channel_pcm, no_analysis, analyze_blocks, analysis_after}
+use Rattle.sbc_frame.specs.Encoding.{channel_samples, analysis_histories, sample_at, factor_of, is_joined, coded_at, coded_factors, coded_values, coded_fields}
 use Rattle.sbc_frame.specs.Arrays.{entry, rows_of, samples_array}
 use Rattle.sbc_frame.specs.declared.blocks.Blocks.{Blocks}
 use Rattle.sbc_frame.specs.declared.CodedFrame.{CodedFrame}
@@ -224,3 +226,16 @@ pub coding-packed : (p : SbcParameters) → accepted p ≡ true → (samples : �
 coding-packed p a samples xs given k e =
     frame-packed p a samples (coded k) (subst (CodingIn p samples) (sym e) (coding-in p a samples xs (arrays-hold p a samples xs given)))
     k.factors.long
+
+-- ---- a frame from PCM, as the call for its channels says it: k blocks of S samples, C channels
+module _ (p : SbcParameters) (H : List (List ℤ)) (input : List ℤ) {C k S : ℕ} (e : C ≡ channels p) (f : k ≡ p.blocks) (g : S ≡ p.subbands) where
+  pub histories-given : build 2
+      (λ c. if ltb c C then analysis_after k S (get_or H c no_analysis) (pcm_in C c (k * S) input) else get_or H c no_analysis)
+      ≡ analysis_histories p H input
+  unfolding analysis_histories channel_pcm samples_per_channel
+  histories-given = rw (e, f, g) refl
+
+  pub samples-given : (c : ℕ) → samples_array k (analyze_blocks k S (get_or H c no_analysis) (pcm_in C c (k * S) input))
+      ≡ samples_array p.blocks (channel_samples p H input c)
+  unfolding channel_samples channel_pcm samples_per_channel
+  samples-given c = rw (e, f, g) refl

@@ -9,6 +9,7 @@ ghost use Rattle.sbc_frame.specs.Encoding.{encode_fields, analysis_histories};
 use sbc_analyze_frame::analyze_channels;
 use sbc_code::code;
 use sbc_filterbank::Analysis;
+use sbc_frame::BlockCount;
 use sbc_parameters::AcceptedSet;
 use sbc_write_frame::write_frame;
 
@@ -26,7 +27,14 @@ pub fn encode_frame(
         ≡ analysis_histories accepted.set (map (λ a. a.history) histories.old) input.now }
     ensures frame { frame.new ≡ pack accepted.set (encode_fields accepted.set (map (λ a. a.history) histories.old) input.now) }
 {
-    let samples = analyze_channels(accepted, histories, input);
+    let set = accepted.set;
+    let samples = analyze_channels(
+        histories,
+        input,
+        BlockCount::from(accepted),
+        usize::from(set.subbands),
+        usize::from(set.channels()),
+    );
     let coding = code(accepted, &samples);
     write_frame(accepted, frame, &coding);
 }

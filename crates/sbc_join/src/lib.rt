@@ -11,6 +11,8 @@ use sbc_frame::{BlockCount, Blocks, Factors};
 use std::array;
 
 // Half the one and half the other, added.
+// Kept: this and `half_difference`, and the rows of either, differ in a sign; one that took the step as a closure would ask for its
+// contract and be longer than both.
 fn half_sum(a: i32, b: i32) -> i32
     ensures { result ≡ floor_div a 2 +ℤ floor_div b 2 }
 {
