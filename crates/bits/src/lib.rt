@@ -42,7 +42,7 @@ fn window(bytes: &[u8]) -> u64
 
 // The number that `count` bits from bit `position` on write.
 // Kept: a body of its own beside sbc_read's `number_at`, which has the same definition: this is the general one. That one
-// reads four bytes of a padded frame, in 14 instructions where `read_at` takes 41 (docs/DECISIONS.md, 44).
+// reads four bytes of a padded frame; by this one a decoded frame takes 16 to 20 % more instructions (docs/DECISIONS.md, 44).
 fn number_at(bytes: &[u8], position: usize, count: u32) -> u32
     requires { (count ≤ 32) × (position + count ≤ 8 * length bytes.now) }
     ensures { result ≡ number_at bytes.now position count }
