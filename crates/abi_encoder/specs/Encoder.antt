@@ -1,5 +1,5 @@
 -- An encoder as numbers, and its calls on them, as those of a decoder. A state stands for an encoder where its parameters are a set.
-use Rattle.std.specs.Prelude.{ℕ, List, [], ℤ, get_or, if◌then◌else◌}
+use Rattle.std.specs.Prelude.{ℕ, List, [], ◌∷◌, ℤ, get_or, if◌then◌else◌}
 use Rattle.laws.specs.Answers.{refuses}
 use Rattle.sbc_encoder.specs.Encode.{Encoded, encoder_of, reset_encoder, encode}
 use Rattle.sbc_encoder.specs.Told.{encoder_with}
@@ -12,7 +12,7 @@ use Rattle.abi_encoder.specs.declared.EncoderState.{EncoderState}
 -- ---- the encoder of a state, and the state of an encoder
 
 unfoldable pub encoder_in : EncoderState → SbcEncoder
-encoder_in s = encoder_with (parameters_in s.parameters) s.left s.right
+encoder_in s = encoder_with (parameters_in s.parameters) (record { history = s.left } ∷ record { history = s.right } ∷ [])
 
 -- the last samples of a channel; an encoder has two
 abbrev pub history : SbcEncoder → ℕ → List ℤ

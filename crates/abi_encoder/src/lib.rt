@@ -8,6 +8,7 @@ ghost use Rattle.abi_encoder.specs.Encoder.{encoder_in, state_of, encode_state, 
 use abi_numbers::{CodedNumbers, ParameterNumbers};
 use codec::Error;
 use sbc_encoder::{Analysis, SbcEncoder};
+use sbc_parameters::SbcParameters;
 
 // An encoder.
 // Kept: C names these fields, in this order (`sbc.h`), the two channels side by side. An array of two would lie in memory
@@ -40,17 +41,16 @@ impl From<&SbcEncoder> for EncoderState {
 
 impl EncoderState {
     // The encoder that the numbers stand for, where they stand for one.
+    // Kept: an Option and no TryFrom, as a decoder's: `reset` stays silent where there is no encoder, and has no use for a refusal.
     #[tactic(auto, unfolding(crate::specs::Encoder::encoder_in))]
     fn encoder(&self) -> Option<SbcEncoder>
         ensures { result ≡ (if is_set self.now.parameters then Some (encoder_in self.now) else None) }
     {
-        if !self.parameters.is_set() {
-            return None;
-        }
+        let parameters = SbcParameters::try_from(self.parameters).ok()?;
         let left = self.left;
         let right = self.right;
         Some(SbcEncoder {
-            parameters: self.parameters.parameters(),
+            parameters,
             analysis: [Analysis { history: left }, Analysis { history: right }],
         })
     }

@@ -6,6 +6,7 @@ use abi_encoder::EncoderState;
 use abi_numbers::{CodedNumbers, ParameterNumbers};
 
 // Makes a new encoder, with silence in both channels: 0, or 3 where the parameters are not accepted.
+// Kept: a number and no Result: C gets the refusal's number.
 #[unsafe(no_mangle)]
 pub extern "C" fn sbc_encoder_new(encoder: &mut EncoderState, parameters: ParameterNumbers) -> u8
     ensures { record { refusal = result; state = encoder.new } ≡ create_state encoder.old parameters }
