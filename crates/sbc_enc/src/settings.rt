@@ -39,6 +39,7 @@ fn number<N: FromStr<Err = ParseIntError>>(word: &str) -> Result<N, Error> {
     word.parse().map_err(|_| Error::InvalidParameter)
 }
 
+// Kept: no `FromStr`, here and in `allocation`, since neither type is of this crate, and the words are this program's alone.
 fn channel_mode(word: &str) -> Result<SbcChannelMode, Error> {
     match word {
         "mono" => Ok(SbcChannelMode::Mono),
