@@ -61,7 +61,8 @@ impl Needs {
     fn offset(self, subband: usize) -> i32
         ensures { result ≡ loudness_offset self.parameters subband }
     {
-        // Kept: one branch picks the type, since the number of subbands is known only as the program runs.
+        // Kept: one branch for each subband picks the type, by the rate's index. A slice of the rate's offsets, held in the struct, would be
+        // picked once, but an allocation of joint stereo with 8 subbands then took 1683 to 1730 instructions, against 1643.
         if self.parameters.subbands == 4 {
             offset_in::<Four>(self.rate, subband)
         } else {
