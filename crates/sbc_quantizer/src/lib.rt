@@ -41,8 +41,8 @@ fn raised(sample: i32, limit: u32) -> i64
 }
 
 // The quantized value of a sample.
-// Kept: the factor and the number of bits are two parameters. Callers have them in two rows of a frame, so that a struct of both would
-// live for one call.
+// Kept: the factor and the number of bits are two parameters, and their bounds stand here, at `Dequantizer::new` and at `reconstruct`, that
+// of the bits alone at `reciprocal` too. Callers have them in two rows of a frame, so that a struct of both would live for one call.
 #[tactic(auto, using(crate::proofs::Limits::quantize_held, crate::proofs::Limits::product_fits, crate::proofs::Limits::quotient_fits))]
 pub fn quantize(sample: i32, scale_factor: u8, bits: u8) -> u32
     requires { (scale_factor ≤ 15) × (bits ≤ 16) }

@@ -51,6 +51,8 @@ struct Group<'a> {
 
 impl Group<'_> {
     // The bits of a level.
+    // Kept: this chain and that of `base_total` are two. One method that takes the function in which they differ proves, but it must ask
+    // that all the function gives is at most 16, and say its sum for any definition that the function meets; each caller names that one.
     fn level_bits(&self, level: u32) -> u32
         ensures { result ≡ sum_by (λ need. level_part (need - level)) self.now.needs.now }
     {
@@ -146,7 +148,8 @@ fn last_bit(bits: &mut [u8])
 }
 
 // The bits of a group, by its needs; zeros stand behind them.
-// Kept: sixteen places, whatever the group has, since the codec keeps to fixed memory.
+// Kept: sixteen places by value, whatever the group has. The codec has no heap, and if they were lent, each of the two callers would make
+// the same array of sixteen first.
 pub fn share_bits(needs: &[u32], bitpool: u32) -> [u8; 16]
     requires { Servable needs.now bitpool }
     ensures { result ≡ share (map lowered needs.now) bitpool ++ replicate (16 - length needs.now) 0 }
