@@ -3,3 +3,4 @@ pub mod Factors
 pub mod Limits
 pub mod Division
 pub mod Steps
+pub mod Reciprocals

@@ -53,30 +53,18 @@ pub fn quantize(sample: i32, scale_factor: u8, bits: u8) -> u32
     (product >> (u32::from(scale_factor) + 14)) as u32
 }
 
-// 2 ^ 31 / (2 ^ bits - 1), rounded down. A `match` is compiled to a table in memory;
-// the remainder is there for the compiler, which then has no other number to test for.
+// 2 ^ 31 / (2 ^ bits - 1), rounded down, for 1 to 16 bits.
+static RECIPROCALS: [u32; 16] = [
+    2147483648, 715827882, 306783378, 143165576, 69273666, 34087042, 16909320, 8421504, 4202512,
+    2099202, 1049088, 524416, 262176, 131080, 65538, 32768,
+];
+
+// The reciprocal of so many bits.
 fn reciprocal(bits: u8) -> u32
     requires { (0 < bits) × (bits ≤ 16) }
     ensures { result ≡ 2 ^ 31 / levels bits }
 {
-    match (bits - 1) % 16 {
-        0 => 2147483648,
-        1 => 715827882,
-        2 => 306783378,
-        3 => 143165576,
-        4 => 69273666,
-        5 => 34087042,
-        6 => 16909320,
-        7 => 8421504,
-        8 => 4202512,
-        9 => 2099202,
-        10 => 1049088,
-        11 => 524416,
-        12 => 262176,
-        13 => 131080,
-        14 => 65538,
-        _ => 32768,
-    }
+    RECIPROCALS[usize::from(bits) - 1]
 }
 
 // x / 2 ^ bits, cut toward zero. A shift rounds down: x - 1 of a negative x gives one less than the quotient. No branch decides which it
