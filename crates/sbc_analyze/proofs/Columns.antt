@@ -27,7 +27,7 @@ use Rattle.laws.proofs.Table.{eq_z, eq_z→eq, all_below, at, table-within}
 use Rattle.sbc_tables.specs.Tables.{cosines}
 use Rattle.sbc_filterbank.specs.Subbands.{Bands, cosine_at, padded}
 use Rattle.sbc_filterbank.specs.Analysis.{windowed, analysis_cosine, subband_term, subband_sample, analysis_outputs}
-use Rattle.sbc_filterbank.specs.Matrices.{Part, product_term}
+use Rattle.sbc_filterbank.specs.Matrices.{product_term}
 use Rattle.sbc_analyze.specs.Fold.{fold_sign, fold_mirror, fold_column, even_columns, odd_columns}
 use Rattle.sbc_analyze.specs.Fold.{analysis_columns, column_sum, output_sum, output_value}
 use Rattle.sbc_filterbank.proofs.Bands.{for-bands, bands-le, padded-is}
@@ -140,17 +140,16 @@ matrix-size : {S : ℕ} → Bands S → length (analysis_columns S) ≡ S / 2 * 
 unfolding analysis_columns collect build
 matrix-size b = for-bands (λ s. length (analysis_columns s) ≡ s / 2 * s) b refl refl
 
--- what the sum of output i's even columns (at = 0), or of its odd ones (S/2), asks of the matrix, and of the columns
-pub column-asks : {S : ℕ} (i at place : ℕ) (M : List ℤ) → Bands S → i < S / 2 → at ≤ S / 2 → place ≡ i * S + at → M ≡ analysis_columns S
-    → Part M place (S / 2)
-column-asks {S} i at place M b h a p e =
+-- where the part of output i's even columns (at = 0) ends, or that of its odd ones (S/2), and the bound of the matrix as it is lent
+pub column-ends : {S : ℕ} (i at place : ℕ) (M : List ℤ) → Bands S → i < S / 2 → at ≤ S / 2 → place ≡ i * S + at → M ≡ analysis_columns S
+    → place + S / 2 ≤ length M
+column-ends {S} i at place M b h a p e =
     let end : i * S + at + S / 2 ≤ S / 2 * S =
-    for-bands (λ s. i < s / 2 → at ≤ s / 2 → i * s + at + s / 2 ≤ s / 2 * s) b (λ l m. omega arith) (λ l m. omega arith) h a in (
-      omega (arith, bands-le b),
-      omega (arith, for-bands (λ s. s / 2 * s ≤ 32) b (lit≤ tt) (lit≤ tt)),
-      omega (arith, ap length e, matrix-size b),
-      subst (Within (2 ^ 30)) (sym e) (matrix-within b),
-    )
+    for-bands (λ s. i < s / 2 → at ≤ s / 2 → i * s + at + s / 2 ≤ s / 2 * s) b (λ l m. omega arith) (λ l m. omega arith) h a in
+    omega (arith, ap length e, matrix-size b)
+
+pub lent-within : {S : ℕ} (M : List ℤ) → Bands S → M ≡ analysis_columns S → Within (2 ^ 30) M
+lent-within M b e = subst (Within (2 ^ 30)) (sym e) (matrix-within b)
 
 pub columns-fit : (F : List ℤ) → Within 800000000 F → Within (2 ^ 30) F
 columns-fit F w k = le_trans (w k) (lit≤ tt)
@@ -190,7 +189,8 @@ unfolding column_sum
 sums-within {S} F sums at b w e =
     subst (Within (2 ^ 32 * 800000000)) (sym e)
     (within-up_to 4 (S / 2) (2 ^ 32 * 800000000) (column_sum S F at)
-    (λ i p. products-within (analysis_columns S) F (i * S + at) (S / 2) 800000000 (matrix-within b) w (omega (arith, bands-le b))))
+    (λ i p. products-within (λ k. get_or (analysis_columns S) (i * S + at + k) (pos 0)) (λ k. get_or F k (pos 0)) (S / 2) 800000000
+    (λ k. matrix-within b (i * S + at + k)) w (omega (arith, bands-le b))))
 
 pub outputs-within : (S : ℕ) (even odd out : List ℤ) → Within (2 ^ 32 * 800000000) even → Within (2 ^ 32 * 800000000) odd
     → out ≡ build 8 (up_to S (output_value S (λ k. get_or even k (pos 0)) (λ k. get_or odd k (pos 0)))) → Within 800000000 out

@@ -114,8 +114,10 @@ impl Columns {
         let mut even = [0i64; 4];
         let mut odd = [0i64; 4];
         for i in 0..half {
-            even[i] = products(matrix, &self.even, i * subbands, half);
-            odd[i] = products(matrix, &self.odd, i * subbands + half, half);
+            let at = i * subbands;
+            let middle = at + half;
+            even[i] = products(&matrix[at..middle], &self.even[..half]);
+            odd[i] = products(&matrix[middle..middle + half], &self.odd[..half]);
         }
         Sums { even, odd }
     }

@@ -7,6 +7,7 @@ use sbc_tables::{Bank, COSINE as C, Eight, Four};
 // A filterbank with the cosines of its folded analysis.
 pub trait AnalysisBank: Bank {
     // For each output in the first half, its even columns, and then its odd ones.
+    // Kept: one list, in parts of S/2 entries: Rattle has no computed const argument, which an array of such parts needs.
     fn columns() -> &'static [i32]
         ensures { result.now ≡ analysis_columns Self.SUBBANDS };
 }

@@ -1,17 +1,18 @@
 // The sum of products that the folded sums of both directions are made of.
-ghost use Rattle.std.specs.Prelude.{◌≡◌, ◌^◌};
+ghost use Rattle.std.specs.Prelude.{◌≡◌, ◌≤◌, ◌^◌, length};
 ghost use Rattle.laws.specs.Integers.{Within};
 ghost use Rattle.laws.specs.Sums.{sum_z};
-ghost use Rattle.sbc_filterbank.specs.Matrices.{Part, product_term};
+ghost use Rattle.sbc_filterbank.specs.Matrices.{product_of};
 
-// `count` cosines of a matrix, from `at` on, times the first values. The values' bound keeps the sum in an i64.
-pub fn products(matrix: &[i32], values: &[i32; 4], at: usize, count: usize) -> i64
-    requires { (Within (2 ^ 30) values.now) × (Part matrix.now at count) }
-    ensures { result ≡ sum_z count (product_term matrix.now values.now at) }
+// Cosines of a matrix times as many values, at most four. The values' bound keeps the sum in an i64.
+pub fn products(cosines: &[i32], values: &[i32]) -> i64
+    requires lengths { (length cosines.now ≡ length values.now) × (length values.now ≤ 4) }
+    requires small { (Within (2 ^ 30) cosines.now) × (Within (2 ^ 30) values.now) }
+    ensures { result ≡ sum_z (length cosines.now) (product_of cosines.now values.now) }
 {
     let mut sum = 0i64;
-    for n in 0..count {
-        sum = laws::multiply_add(sum, matrix[at + n], values[n]);
+    for (cosine, value) in cosines.iter().zip(values) {
+        sum = laws::multiply_add(sum, *cosine, *value);
     }
     sum
 }

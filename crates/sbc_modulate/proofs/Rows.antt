@@ -26,7 +26,7 @@ use Rattle.laws.proofs.Table.{eq_z, eq_z→eq, all_below, at, table-within}
 use Rattle.sbc_tables.specs.Tables.{cosines}
 use Rattle.sbc_filterbank.specs.Subbands.{Bands, cosine_at}
 use Rattle.sbc_filterbank.specs.Synthesis.{synthesis_cosine, modulate_term, modulated_at}
-use Rattle.sbc_filterbank.specs.Matrices.{Part, product_term}
+use Rattle.sbc_filterbank.specs.Matrices.{product_term}
 use Rattle.sbc_modulate.specs.Fold.{pair_sign, pair_of, row_odd, synthesis_rows, row_sum, row_source, row_sign, row_value}
 use Rattle.sbc_filterbank.proofs.Bands.{for-bands, bands-le}
 use Rattle.sbc_filterbank.proofs.Terms.{products-within}
@@ -170,16 +170,15 @@ matrix-size : {S : ℕ} → Bands S → length (synthesis_rows S) ≡ S * (S / 2
 unfolding synthesis_rows collect build
 matrix-size b = for-bands (λ s. length (synthesis_rows s) ≡ s * (s / 2)) b refl refl
 
--- what the sum of row m asks of the matrix
-pub row-asks : {S : ℕ} (m : ℕ) (M : List ℤ) → Bands S → m < S → M ≡ synthesis_rows S → Part M (m * (S / 2)) (S / 2)
-row-asks {S} m M b h e =
+-- where row m of the matrix ends, and the bound of the matrix as it is lent
+pub row-ends : {S : ℕ} (m : ℕ) (M : List ℤ) → Bands S → m < S → M ≡ synthesis_rows S → m * (S / 2) + S / 2 ≤ length M
+row-ends {S} m M b h e =
     let end : m * (S / 2) + S / 2 ≤ S * (S / 2) =
-    for-bands (λ s. m < s → m * (s / 2) + s / 2 ≤ s * (s / 2)) b (λ l. omega arith) (λ l. omega arith) h in (
-      omega (arith, bands-le b),
-      le_trans end (for-bands (λ s. s * (s / 2) ≤ 32) b (lit≤ tt) (lit≤ tt)),
-      subst (λ (n : ℕ). m * (S / 2) + S / 2 ≤ n) (sym (ap length e ∙ matrix-size b)) end,
-      subst (Within (2 ^ 30)) (sym e) (matrix-within b),
-    )
+    for-bands (λ s. m < s → m * (s / 2) + s / 2 ≤ s * (s / 2)) b (λ l. omega arith) (λ l. omega arith) h in
+    subst (λ (n : ℕ). m * (S / 2) + S / 2 ≤ n) (sym (ap length e ∙ matrix-size b)) end
+
+pub lent-within : {S : ℕ} (M : List ℤ) → Bands S → M ≡ synthesis_rows S → Within (2 ^ 30) M
+lent-within M b e = subst (Within (2 ^ 30)) (sym e) (matrix-within b)
 
 pub rows-within : {S : ℕ} (sums differences rows : List ℤ) → Bands S → Within (2 ^ 30) sums → Within (2 ^ 30) differences
     → rows ≡ build 8 (up_to S (row_sum S sums differences)) → Within (2 ^ 62) rows
@@ -187,6 +186,7 @@ unfolding row_sum
 rows-within {S} sums differences rows b p q e =
     subst (Within (2 ^ 62)) (sym e)
     (within-up_to 8 S (2 ^ 62) (row_sum S sums differences)
-    (λ r h. products-within (synthesis_rows S) (if eqb (row_odd S r) 0 then sums else differences) (r * (S / 2)) (S / 2) (2 ^ 30)
-    (matrix-within b)
+    (λ r h. products-within (λ k. get_or (synthesis_rows S) (r * (S / 2) + k) (pos 0))
+    (λ k. get_or (if eqb (row_odd S r) 0 then sums else differences) k (pos 0)) (S / 2) (2 ^ 30)
+    (λ k. matrix-within b (r * (S / 2) + k))
     (by-test (Within (2 ^ 30)) (eqb (row_odd S r) 0) sums differences (λ _. p) (λ _. q)) (omega (arith, bands-le b))))

@@ -27,8 +27,9 @@ pub struct Pairs {
 }
 
 // The pairs of a block's samples.
-// Kept: the samples' bound in three contracts, here and in sbc_synthesize; no plainer otherwise: a block is lent as it stands in a frame,
-// and a struct with the bound would be made of it for each call and taken apart here.
+// Kept: the samples' bound in three contracts, here and in sbc_synthesize; no plainer otherwise. `FrameBytes` is made once a frame and
+// handed on through three crates. A struct of a block and its bound would be made anew for each block of each channel, by sbc_play's
+// `play_block`, and taken apart here, two calls later.
 pub fn pair_all<B: Bank>(input: &[i32; 8]) -> Pairs
     requires { Within (2 ^ 29) input.now }
     ensures sums { result.sums ≡ build 4 (up_to (B.SUBBANDS / 2) (pair_of B.SUBBANDS 0 (λ k. get_or input.now k (pos 0)))) }
@@ -53,10 +54,11 @@ fn row<B: SynthesisBank>(pairs: &Pairs, m: usize) -> i64
     ensures { result ≡ row_sum B.SUBBANDS pairs.now.sums pairs.now.differences m }
 {
     let half = B::SUBBANDS / 2;
+    let cosines = &B::rows()[m * half..m * half + half];
     if takes_sums::<B>(m) {
-        return products(B::rows(), &pairs.sums, m * half, half);
+        return products(cosines, &pairs.sums[..half]);
     }
-    products(B::rows(), &pairs.differences, m * half, half)
+    products(cosines, &pairs.differences[..half])
 }
 
 // Whether row m takes the sums; the others take the differences. The matrix leaves out the rows that mirror others.

@@ -7,6 +7,7 @@ use sbc_tables::{Bank, COSINE as C, Eight, Four};
 // A filterbank with the cosines of its folded synthesis.
 pub trait SynthesisBank: Bank {
     // For each row of the vector that is not a mirror of another, its first half.
+    // Kept: one list, in rows of S/2 entries: Rattle has no computed const argument, which an array of such rows needs.
     fn rows() -> &'static [i32]
         ensures { result.now ≡ synthesis_rows Self.SUBBANDS };
 }
