@@ -71,6 +71,7 @@ impl From<&SbcDecoder> for DecoderState {
 }
 
 // The numbers of what a seek answers.
+// Kept: as the two in abi_numbers, it fills a struct of its own.
 impl From<Result<SeekRequest, Error>> for SeekNumbers {
     ghost from_gives = { λ answer numbers. numbers ≡ seek_numbers (told answer) };
 
@@ -102,6 +103,10 @@ impl DecoderState {
     }
 
     // The decoder that the numbers stand for, where they stand for one.
+    // Kept: an Option and no TryFrom: `reset` and `finish` stay silent where there is no decoder, so that a refusal made here
+    // would be dropped by these two, and the other two would take a Result out of a Result.
+    // Kept: the test of 1 is a guard, as that of 0, and all refusals are in the last arm; `SbcParameters::try_from(..).ok()?` in
+    // that arm proves too, but refuses in a place of its own and is no shorter.
     #[tactic(auto, using(crate::proofs::Decoding::blanks), unfolding(crate::specs::Decoder::is_decoder, crate::specs::Decoder::decoder_in))]
     fn decoder(&self) -> Option<SbcDecoder>
         ensures { result ≡ (if is_decoder self.now then Some (decoder_in self.now) else None) }
