@@ -80,8 +80,9 @@ impl SbcEncoder {
 }
 
 // So many frames, one after the other. The histories are altered where the caller has them.
-// Kept: a frame is encoded from the front of the whole rest, as the definition says; chunks would cut the rest, and a law would have to
-// undo it.
+// Kept: `for (i, frame) in output.chunks_exact_mut(length).take(count).enumerate()` leaves the goal `returns-clause-output` open: when the
+// chunks' borrow is over, a proof knows how long the output is, and not what is in it. The input of a frame is the whole rest, as the
+// definition of the encoder says, so that it needs the number too.
 fn encode_frames(
     accepted: AcceptedSet,
     histories: &mut [Analysis; 2],

@@ -45,8 +45,8 @@ impl<'a> Writer<'a> {
     }
 
     // The low `count` bits of a value behind all that is written, flushed by bytes; no byte behind is touched.
-    // Kept: a `while`: each turn stores one byte, and the bits held say how many turns there are; a `for` would count a number that its
-    // body never uses.
+    // Kept: `for byte in &mut self.bytes[at..at + held / 8]` proves, and is slower by more than 1 %: a frame of 8 subbands is encoded in
+    // 32344 instructions for 30239 (joint stereo, bitpool 53), and in 30059 for 28353 (dual channel).
     fn put(&mut self, value: u32, count: u32)
         requires short { count ≤ 16 }
         requires low { value < 2 ^ count }
