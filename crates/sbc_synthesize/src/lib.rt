@@ -42,6 +42,8 @@ impl<'a> Ring<'a> {
     }
 
     // The sums of the outputs over the b newest vectors, with the next vector's terms added.
+    // Kept: places computed in the prototype and in the ring, which are flat lists: their rows have S and 2 S entries, and Rattle has no
+    // const argument that is computed.
     fn add_vector<B: Bank>(&self, sums: &[i64; 8], b: usize) -> [i64; 8]
         requires { (b < 10) × (OutputSums B.SUBBANDS (ring B.SUBBANDS self.now.values.now self.now.newest) b sums.now) }
         ensures { OutputSums B.SUBBANDS (ring B.SUBBANDS self.now.values.now self.now.newest) (b + 1) result }
