@@ -106,7 +106,7 @@ impl DecoderState {
     // Kept: an Option and no TryFrom: `reset` and `finish` stay silent where there is no decoder, so that a refusal made here
     // would be dropped by these two, and the other two would take a Result out of a Result.
     // Kept: the test of 1 is a guard, as that of 0, and all refusals are in the last arm; `SbcParameters::try_from(..).ok()?` in
-    // that arm proves too, but refuses in a place of its own and is no shorter.
+    // that arm proves too, and is no plainer: it would refuse by itself, and not all refusals would stand in the last.
     #[tactic(auto, using(crate::proofs::Decoding::blanks), unfolding(crate::specs::Decoder::is_decoder, crate::specs::Decoder::decoder_in))]
     fn decoder(&self) -> Option<SbcDecoder>
         ensures { result ≡ (if is_decoder self.now then Some (decoder_in self.now) else None) }

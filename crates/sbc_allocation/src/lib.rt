@@ -43,6 +43,8 @@ fn channel_needs(parameters: SbcParameters, scale_factors: [u8; 8]) -> [u32; 8]
 }
 
 // Left before right within a subband.
+// Kept: places computed, here and in `row_of`: a group is served as one row, and an array of pairs would be taken apart again for
+// `share_bits`.
 fn both_channels(channels: [[u32; 8]; 2]) -> [u32; 16]
     ensures { result ≡ entries 16 (λ i. get_or (get_or channels (i % 2) []) (i / 2) 0) }
 {

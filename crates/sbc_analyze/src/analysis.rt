@@ -124,6 +124,7 @@ impl Columns {
 }
 
 // For each of the first S/2 outputs the sum of its even columns, and of its odd ones.
+// Kept: beside `Columns`, two lists too: one type for both would take the entries' type and the bound, and have no method of either.
 #[derive(Drop)]
 struct Sums {
     even: [i64; 4],

@@ -92,6 +92,7 @@ pub fn analyze_channel(
 }
 
 // All channels of a frame, `count` of them. Of a channel that the frame does not have the samples are zeros, and the history stays as it is.
+// Kept: the blocks, the subbands and the channels as numbers, here and in `analyze_channel`, which took any such: an `AcceptedSet` asks more.
 pub fn analyze_channels(
     histories: &mut [Analysis; 2],
     input: &[i16],

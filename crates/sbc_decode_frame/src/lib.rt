@@ -24,6 +24,8 @@ pub fn decode_frame(histories: &mut [Synthesis; 2], frame: FrameBytes, output: &
 }
 
 // Leaves out the first samples of a frame's: the others move to the front, and the places behind them keep what they held.
+// Kept: how many samples a frame has beside the output, which is the caller's whole rest: of a part, the decoder's `play` would have to say
+// what stands behind it.
 pub fn leave_out(output: &mut [i16], gone: usize, samples: usize)
     requires { (gone ≤ samples) × (samples ≤ length output.old) }
     ensures { output.new ≡ take (samples - gone) (drop gone output.old) ++ drop (samples - gone) output.old }

@@ -49,7 +49,7 @@ fn word(bytes: &[u8; 528], at: usize) -> u32
 
 // The number that `count` bits from bit `position` on write. They stand in four bytes.
 // Kept: beside `bits::read_at`, which says the same of any bytes: by it a decoded frame takes 16 to 20 % more instructions (35,103 of
-// HIGH_QUALITY for 29,671), with 4 subbands 0.87 of the Rust's, past the most of any call today (docs/DECISIONS.md, 44, BENCHMARKS.md).
+// HIGH_QUALITY for 29,671), with 4 subbands 0.87 of the Rust's, past the most of any frame today (docs/DECISIONS.md, 44, BENCHMARKS.md).
 fn number_at(bytes: &[u8; 528], position: usize, count: u8) -> u32
     requires { (0 < count) × (count ≤ 16) × (position ≤ 4192) }
     ensures { (result ≡ number_at bytes.now position count) × (result < 2 ^ count) }

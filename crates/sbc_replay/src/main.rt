@@ -75,7 +75,8 @@ fn bytes_of(set: SbcParameters) -> [u8; 9] {
     ]
 }
 
-// The error byte of an answer. Kept: 0 for none, as the format of the output has it.
+// The error byte of an answer.
+// Kept: 0 for none, as the format of the output has it.
 fn error_byte<T: Copy>(answer: Result<T, Error>) -> u8 {
     answer.err().map_or(0, u8::from)
 }

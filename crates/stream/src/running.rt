@@ -61,7 +61,7 @@ pub trait Coder {
     ghost ends: { Self → Self → Type 0 };
 
     // Takes some of the bytes, from their front, and answers how many: none where it has to see more of them.
-    // Kept: 0 and no Option, as std's `read` answers: a count of none says that none were taken.
+    // Kept: 0 and no Option: both coders would make one of the count that their codec answers, for one test in `code_held`.
     fn code(&mut self, rt: &impl Print, bytes: &[u8]) -> Result<usize, Stop>
         ensures within { IfOk result (λ used. used ≤ length bytes.now) }
         ensures coded { IfOk result (λ used. codes self.old bytes.now used self.new) }
@@ -115,6 +115,7 @@ fn code_coming<C: Coder, R: Read>(
 }
 
 // Has the bytes that are held coded until the coder takes none of them.
+// Kept: a `loop`: each turn says whether another follows. It ends, since each turn takes some of what is held.
 #[tactic(auto, using(crate::proofs::Kept::kept_count_is))]
 fn code_held<C: Coder>(coder: &mut C, rt: &impl Print, buffer: &mut Buffer) -> Result<(), Stop>
     ensures coded { OnOk result ((last : C) × Reaches C.codes coder.old (holding buffer.old) [] last (holding buffer.new)
