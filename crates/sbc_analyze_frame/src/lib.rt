@@ -16,7 +16,8 @@ use sbc_tables::{Bank, Eight, Four};
 
 // A channel's samples of one block.
 // Kept: places computed from the block, the sample and the channel, since the samples of two channels alternate in PCM; and the input with
-// its channel beside it, and what it has to hold, from here to `analyze_channel`: a struct of both would hold the loan, for these four alone.
+// its channel beside it, and what it has to hold, from here to `analyze_channel`: a struct of both would hold the loan, for these four
+// alone.
 fn pcm_block<B: Bank>(input: &[i16], block: usize, channel: PcmChannel) -> [i16; 8]
     requires { (block + 1) * B.SUBBANDS * channel.count ≤ length input.now }
     ensures { result
@@ -91,8 +92,10 @@ pub fn analyze_channel(
     analyze_channel_by::<Eight>(history, input, blocks, channel)
 }
 
-// All channels of a frame, `count` of them. Of a channel that the frame does not have the samples are zeros, and the history stays as it is.
-// Kept: the blocks, the subbands and the channels as numbers, here and in `analyze_channel`, which took any such: an `AcceptedSet` asks more.
+// All channels of a frame, `count` of them. Of a channel that the frame does not have the samples are zeros, and the history stays as it
+// is.
+// Kept: the blocks, the subbands and the channels as numbers, here and in `analyze_channel`, which took any such: an `AcceptedSet` asks
+// more.
 pub fn analyze_channels(
     histories: &mut [Analysis; 2],
     input: &[i16],

@@ -14,8 +14,8 @@ use sbc_parameters::AcceptedSet;
 use sbc_write_frame::write_frame;
 
 // One frame from PCM. The histories of the channels that there are are altered where the caller has them.
-// Kept: that the input has a frame's samples and the output a frame's bytes, here, in `analyze_channels`, `write_frame` and the encoder's loop:
-// what is lent is cut to a frame there, and a struct with the loan would be made for each frame and taken apart here.
+// Kept: that the input has a frame's samples and the output a frame's bytes, here, in `analyze_channels`, `write_frame` and the encoder's
+// loop: what is lent is cut to a frame there, and a struct with the loan would be made for each frame and taken apart here.
 pub fn encode_frame(
     accepted: AcceptedSet,
     histories: &mut [Analysis; 2],

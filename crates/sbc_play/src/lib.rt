@@ -31,8 +31,8 @@ fn put_block<B: Bank>(output: &mut [i16], pcm: &[i16; 8], block: usize, channel:
 }
 
 // One block of a channel.
-// Kept: that its samples are small, here and of the blocks in the two functions that call it: `Samples` says it of a frame, and each of these
-// has a part of one.
+// Kept: that its samples are small, here and of the blocks in the two functions that call it: `Samples` says it of a frame, and each of
+// these has a part of one.
 fn play_block<B: SynthesisBank>(
     history: &mut Synthesis,
     samples: &[i32; 8],

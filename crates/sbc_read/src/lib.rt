@@ -148,8 +148,8 @@ fn read_channels(accepted: AcceptedSet, bytes: &[u8; 528], factors: &Factors) ->
 }
 
 // Sum and difference of one subband, in place of its samples.
-// Kept: that the subband is below 8, here, in `read_subband` and in sbc_join's `cost`: each is called where a loop over a row's eight entries
-// says it; a type of such a number would be made there and taken apart here.
+// Kept: that the subband is below 8, here, in `read_subband` and in sbc_join's `cost`: each is called where a loop over a row's eight
+// entries says it; a type of such a number would be made there and taken apart here.
 fn join_subband(channels: &mut [Blocks; 2], subband: usize, blocks: BlockCount)
     requires low { subband < 8 }
     requires long { (c : ℕ) → c < 2 → length (rows_of channels.old c) ≡ 16 }

@@ -42,7 +42,8 @@ impl<'a> Buffer<'a> {
     }
 
     // Reads once from the reader, behind the bytes that are held, which stay, and answers how many came: none at the end, or where a read
-    // fails. Those that came are held too, and are the reader's next, where its bytes are known; which a program's input gives is the outside's.
+    // fails. Those that came are held too, and are the reader's next, where its bytes are known; which a program's input gives is the
+    // outside's.
     //
     // Kept: a number and no Result, since the programs count a read that fails as the end of their input, and this public call could never
     // fail.
@@ -58,7 +59,8 @@ impl<'a> Buffer<'a> {
         came
     }
 
-    // Keeps of the bytes that are held those behind the first `used`: they move to the front. None are kept where more are used than are held.
+    // Keeps of the bytes that are held those behind the first `used`: they move to the front. None are kept where more are used than are
+    // held.
     #[tactic(auto, using(crate::proofs::Kept::kept_left), unfolding(crate::specs::Kept::keeps, crate::specs::Kept::kept_count, crate::specs::Kept::kept))]
     pub fn keep(&mut self, used: usize)
         ensures held { self.new.held ≡ kept_count (length self.old.bytes.now) used self.old.held }
