@@ -7,7 +7,9 @@ use mathlib.Core.List.{List, [], ◌∷◌}
 use native.Mathlib.Nat.{le_antisymm}
 use native.Mathlib.Omega.{arith}
 use lib.Dec.{eqb}
-use lib.ListN.{length, get_or}
+use lib.ListN.{length, get_or, drop, drop_of_length-le}
+use lib.Seq.{drop-cons}
+use native.Mathlib.Numerals.{add-one}
 use borrow.Author.Tests.{eqb-true, eq-eqb, ne_eqb, ltb-true, ltb-false}
 use Rattle.std.specs.Prelude.{if◌then◌else◌}
 use Rattle.std.specs.List.{position_or_len, list_any}
@@ -47,6 +49,20 @@ and-true false = refl
 index-cons : (x y : ℕ) (ys : List ℕ) (t : Bool) → eqb x y ≡ t → index_of x (y ∷ ys) ≡ (if t then 0 else suc (index_of x ys))
 unfolding index_of
 index-cons x y ys t e = rw e
+
+module _ (x : ℕ) (xs : List ℕ) (i : ℕ) where
+  -- a search that has come to place i: found there, not there, and at the end
+  pub index_here : i < length xs → x ≡ get_or xs i 0 → index_of x (drop i xs) ≡ 0
+  index_here h e = ap (index_of x) (drop-cons xs i 0 h) ∙ index-cons x (get_or xs i 0) (drop (suc i) xs) true (eq-eqb x (get_or xs i 0) e)
+
+  pub index_next : i < length xs → (x ≡ get_or xs i 0 → ⊥) → index_of x (drop i xs) ≡ suc (index_of x (drop (i + 1) xs))
+  index_next h e =
+      ap (index_of x) (drop-cons xs i 0 h) ∙ index-cons x (get_or xs i 0) (drop (suc i) xs) false (ne_eqb x (get_or xs i 0) e)
+      ∙ ap (λ (k : ℕ). suc (index_of x (drop k xs))) (sym (add-one i))
+
+  pub index_end : length xs ≤ i → index_of x (drop i xs) ≡ 0
+  unfolding index_of
+  index_end h = ap (index_of x) (drop_of_length-le xs h)
 
 -- the library's words for them: the first place at which a test for the number passes, and whether it passes at all
 pub index_is : (x : ℕ) (ys : List ℕ) → index_of x ys ≡ position_or_len (eqb x) ys

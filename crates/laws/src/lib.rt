@@ -60,12 +60,18 @@ pub fn find(value: u32, values: &[u32]) -> Option<usize>
 }
 
 // The place of a value in a list, or the list's length where it is not in it.
-// Kept: a number and no Option, since this public function could never fail; `find`, beside it, gives the Option.
-#[tactic(auto, using(crate::proofs::Tests::unlisted), unfolding(crate::specs::Lists::listed))]
+// Kept: a number and no Option, since this public function could never fail; `find`, beside it, gives the Option. And a loop over the
+// places: a search that begins at the second, or leaves places out, is then wrong by one operand of it, and refused by a fact.
+#[tactic(auto, using(crate::proofs::Tests::index_here, crate::proofs::Tests::index_next, crate::proofs::Tests::index_end))]
 pub fn index_of(value: u32, values: &[u32]) -> usize
     ensures { result ≡ index_of value values.now }
 {
-    find(value, values).unwrap_or(values.len())
+    for i in 0..values.len() {
+        if value == values[i] {
+            return i;
+        }
+    }
+    values.len()
 }
 
 // Whether a value is in a list.
