@@ -28,6 +28,18 @@ unfolding unsigned_of
 unsigned (pos n) = refl
 unsigned (negsuc n) = omega arith
 
+-- `i16::from_le_bytes` of two bytes
+pub read_word : (low high : ℕ) → to_z w16 (low + high * 256) ≡ sample_of low high
+unfolding sample_of
+read_word low high =
+    let f : low + high * 256 ≡ low + 256 * high = omega arith in
+    ap (to_z w16) f ∙ signed (low + 256 * high)
+
+-- `i16::to_le_bytes` of a sample
+pub written_word : (z : ℤ) → let n : ℕ = of_z w16 z in (n % 256 ∷ n / 256 % 256 ∷ []) ≡ (low_byte z ∷ high_byte z ∷ [])
+unfolding low_byte high_byte
+written_word z = ap (λ (n : ℕ). n % 256 ∷ n / 256 % 256 ∷ []) (unsigned z)
+
 -- the two bytes of pair i
 pair-at : (n i : ℕ) (bytes pair : List ℕ) → i < n → 2 * n ≤ length bytes
     → get_or (first_chunks 2 n bytes) i pair ≡ (get_or bytes (2 * i) 0 ∷ get_or bytes (2 * i + 1) 0 ∷ [])
@@ -40,21 +52,14 @@ pair-at (suc n) (suc i) (a ∷ b ∷ bytes) pair h fits =
     let odd : 2 * suc i + 1 ≡ suc (suc (2 * i + 1)) = omega arith in
     rw (odd, two) (pair-at n i bytes pair (omega arith) (omega arith))
 
--- `i16::from_le_bytes` of pair i
+-- the sample of pair i
 pub read-sample : (n i : ℕ) (bytes pair : List ℕ) → i < n → 2 * n ≤ length bytes → pair ≡ get_or (first_chunks 2 n bytes) i []
-    → to_z w16 (get_or pair 0 0 + get_or pair 1 0 * 256) ≡ sample_of (get_or bytes (2 * i) 0) (get_or bytes (2 * i + 1) 0)
-unfolding sample_of
-read-sample n i bytes pair h fits e =
-    let low : ℕ = get_or bytes (2 * i) 0 in
-    let high : ℕ = get_or bytes (2 * i + 1) 0 in
-    let f : low + high * 256 ≡ low + 256 * high = omega arith in
-    ap (λ l. to_z w16 (get_or l 0 0 + get_or l 1 0 * 256)) (e ∙ pair-at n i bytes [] h fits) ∙ ap (to_z w16) f ∙ signed (low + 256 * high)
+    → sample_of (get_or pair 0 0) (get_or pair 1 0) ≡ sample_of (get_or bytes (2 * i) 0) (get_or bytes (2 * i + 1) 0)
+read-sample n i bytes pair h fits e = ap (λ l. sample_of (get_or l 0 0) (get_or l 1 0)) (e ∙ pair-at n i bytes [] h fits)
 
--- what `i16::to_le_bytes` gives, of a sample that the machine reads back from its bits
+-- the two bytes of a sample that the machine reads back from its bits
 pub written-sample : (z : ℤ) (bytes : List ℕ) → SFits w16 z
-    → let n : ℕ = of_z w16 (to_z w16 (of_z w16 z)) in bytes ≡ (n % 256 ∷ n / 256 % 256 ∷ [])
+    → let y : ℤ = to_z w16 (of_z w16 z) in bytes ≡ (low_byte y ∷ high_byte y ∷ [])
     → (get_or bytes 0 0 ∷ get_or bytes 1 0 ∷ []) ≡ (low_byte z ∷ high_byte z ∷ [])
-unfolding low_byte high_byte
 written-sample z bytes f e =
-    ap (λ l. get_or l 0 0 ∷ get_or l 1 0 ∷ []) e
-    ∙ ap (λ (n : ℕ). n % 256 ∷ n / 256 % 256 ∷ []) (ap (of_z w16) (to_z-of_z f) ∙ unsigned z)
+    ap (λ l. get_or l 0 0 ∷ get_or l 1 0 ∷ []) e ∙ ap (λ (y : ℤ). low_byte y ∷ high_byte y ∷ []) (to_z-of_z f)

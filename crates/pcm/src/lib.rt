@@ -3,7 +3,23 @@
 
 ghost use Rattle.std.specs.Prelude.{◌≡◌, [], ◌∷◌, ◌*◌, length, get_or, pos};
 ghost use Rattle.laws.specs.Lists.{collect};
-ghost use Rattle.pcm.specs.Samples.{samples_in, low_byte, high_byte};
+ghost use Rattle.pcm.specs.Samples.{samples_in, sample_of, low_byte, high_byte};
+
+// The sample of two bytes, the low one first. A function of its own, as the next, so that a wrong one is refused by what it gives.
+#[tactic(auto, using(crate::proofs::Bytes::read_word))]
+fn sample_in(pair: [u8; 2]) -> i16
+    ensures { result ≡ sample_of (get_or pair 0 0) (get_or pair 1 0) }
+{
+    i16::from_le_bytes(pair)
+}
+
+// The two bytes of a sample, the low one first.
+#[tactic(auto, using(crate::proofs::Bytes::written_word))]
+fn bytes_of(sample: i16) -> [u8; 2]
+    ensures { result ≡ low_byte sample ∷ high_byte sample ∷ [] }
+{
+    sample.to_le_bytes()
+}
 
 // Reads each sample from its two bytes.
 #[tactic(auto, unfolding(crate::specs::Samples::samples_in, laws::specs::Lists::build, laws::specs::Lists::collect))]
@@ -14,7 +30,7 @@ pub fn read(bytes: &[u8], samples: &mut [i16])
     let (pairs, _) = bytes.as_chunks::<2>();
     // Kept: the index. With `samples.iter_mut().zip(pairs)` the goal `returns` stays open: a proof then knows the samples' number alone.
     for (i, sample) in samples.iter_mut().enumerate() {
-        *sample = i16::from_le_bytes(pairs[i]);
+        *sample = sample_in(pairs[i]);
     }
 }
 
@@ -27,7 +43,7 @@ pub fn write(samples: &[i16], bytes: &mut [u8])
 {
     // Kept: the index. With `bytes.chunks_exact_mut(2).zip(samples)` the goal `returns` stays open, as in `read`.
     for (i, sample) in samples.iter().enumerate() {
-        let [low, high] = sample.to_le_bytes();
+        let [low, high] = bytes_of(*sample);
         bytes[2 * i] = low;
         bytes[2 * i + 1] = high;
     }

@@ -28,5 +28,5 @@ loop-i-preserved c =
     let bytes = c.args.bytes.now in
     let at = ap (λ pairs. get_or pairs l.i []) c.as_chunks.ensures.front in
     let pair = read-sample (length bytes / 2) l.i bytes _ (omega arith) (omega arith) at in
-    let value = to_z-of_z {w = w16} (record { sfits = c.from_le_bytes.type_inv }) ∙ c.from_le_bytes.ensures ∙ pair in
+    let value = to_z-of_z {w = w16} (record { sfits = c.sample_in.type_inv }) ∙ c.sample_in.ensures ∙ pair in
     read_next _ l.samples l.i _ (omega arith) l.invariant value

@@ -32,4 +32,4 @@ pub loop-i-preserved : goal.loop-i-preserved
 loop-i-preserved c =
     let l = c.loop-i in
     let z : ℤ = get_or c.args.samples.now l.i (pos 0) in
-    written_next _ l.bytes l.i _ _ (omega arith) l.invariant (written-sample z _ (record { sfits = search rules }) c.to_le_bytes.ensures)
+    written_next _ l.bytes l.i _ _ (omega arith) l.invariant (written-sample z _ (record { sfits = search rules }) c.bytes_of.ensures)
