@@ -5,12 +5,9 @@ use mathlib.Core.List.{List, [], ◌∷◌, map}
 use Prim.Native.Nat.{ℕ, zero, suc, ◌+◌, ◌-◌, ◌*◌, ◌≤◌, ◌<◌, min, max}
 use native.Mathlib.Omega.{arith}
 use lib.ListN.{length, get_or, drop, set, drop_of_length-le}
-use borrow.Author.Tests.{lt-ltb, le-ltb, ltb-false}
-use mathlib.Core.Bool.{Bool, true, false}
-use lib.Dec.{ltb}
-use Rattle.std.proofs.Common.{None, nat_lt}
+use borrow.Author.Tests.{lt-ltb, le-ltb}
 use Rattle.laws.proofs.Arrays.{from-here}
-use Rattle.std.specs.List.{fold, sum_by, position, position_or_len}
+use Rattle.std.specs.List.{fold, sum_by}
 use Rattle.std.proofs.lemmas.List.Recursion.{is_sum_by}
 use Rattle.sbc_share.specs.Share.{sum, level_part, level_bits, base_bits, round_gain, round_bits, last_bit}
 use Rattle.sbc_share.proofs.Padded.{length-excesses}
@@ -76,22 +73,11 @@ round-end level ns i left h = rw (drop_of_length-le ns h) refl
 
 -- ---- the last bit
 
-past-all : (xs : List ℕ) → length xs ≤ position_or_len (λ b. ltb b 16) xs → last_bit 1 xs ≡ xs
+-- no one has room
+pub none_found : (xs : List ℕ) → ((j : ℕ) → j < length xs → 16 ≤ get_or xs j 0) → last_bit 1 xs ≡ xs
 unfolding last_bit
-past-all [] h = refl
-past-all (x ∷ xs) h = at (ltb x 16) refl (past-all xs)
-  where
-    at : (t : Bool) → ltb x 16 ≡ t → (length xs ≤ position_or_len (λ b. ltb b 16) xs → last_bit 1 xs ≡ xs) → last_bit 1 (x ∷ xs) ≡ x ∷ xs
-    at true t later = absurd (let k = rw t at h in omega arith)
-    at false t later = let k = rw t at h in rw (t, later (omega arith)) refl
-
--- no one has room: the library finds none
-pub none-found : (xs : List ℕ) → None ≡ position (λ b. nat_lt b 16) xs → last_bit 1 xs ≡ xs
-none-found xs e = go (ltb (position_or_len (λ b. ltb b 16) xs) (length xs)) refl
-  where
-    go : (t : Bool) → ltb (position_or_len (λ b. ltb b 16) xs) (length xs) ≡ t → last_bit 1 xs ≡ xs
-    go true t = absurd (let k = rw t at e in cc)
-    go false t = past-all xs (ltb-false _ _ t)
+none_found [] full = refl
+none_found (x ∷ xs) full = rw (le-ltb x 16 (full 0 (omega arith)), none_found xs (λ j l. full (suc j) (omega arith))) refl
 
 pub last_found : (xs : List ℕ) (i : ℕ) → i < length xs → ((j : ℕ) → j < i → 16 ≤ get_or xs j 0) → get_or xs i 0 < 16
     → last_bit 1 xs ≡ set xs i (get_or xs i 0 + 1)

@@ -2,7 +2,7 @@
 #![tactic(auto)]
 
 ghost use Rattle.std.specs.Prelude.{◌≡◌, ◌++◌, map, ◌-◌, ◌≤◌, ◌<◌, nat_lt, min, max, length, take, drop, replicate};
-ghost use Rattle.std.specs.List.{fold, sum_by, position};
+ghost use Rattle.std.specs.List.{fold, sum_by};
 ghost use Rattle.sbc_share.specs.Share.{sum, level_part, level_bits, descend, level_of, base_bits, round_gain, round_bits, last_bit, share};
 ghost use Rattle.sbc_share.specs.Raised.{lowered, excesses, Servable};
 
@@ -131,19 +131,17 @@ impl Group<'_> {
     }
 }
 
-// The place of the first with fewer than 16.
-fn first_with_room(bits: &[u8]) -> Option<usize>
-    ensures { result ≡ position (λ b. nat_lt b 16) bits.now }
-{
-    bits.iter().position(|bits| *bits < 16)
-}
-
 // One bit more for the first with fewer than 16.
+// Kept: the index, and no `position`: a search that begins at the second is then wrong by one operand, and refused by a fact.
+#[tactic(auto, using(crate::proofs::Loops::last_found, crate::proofs::Loops::none_found))]
 fn last_bit(bits: &mut [u8])
     ensures { bits.new ≡ last_bit 1 bits.old }
 {
-    if let Some(first) = first_with_room(bits) {
-        bits[first] += 1;
+    for first in 0..bits.len() {
+        if bits[first] < 16 {
+            bits[first] += 1;
+            return;
+        }
     }
 }
 
