@@ -17,13 +17,13 @@ use Rattle.laws.proofs.Lists.{total-const, length-collect}
 use Rattle.laws.proofs.Bits.{length-bits_of}
 use Rattle.sbc_frame.specs.Arrays.{entry, rows_of}
 use Rattle.sbc_frame.specs.declared.blocks.Blocks.{Blocks}
-use Rattle.sbc_write.specs.declared.Writer.{Writer}
+use Rattle.sbc_write.specs.declared.BodyWriter.{BodyWriter}
 use Rattle.sbc_write.specs.Writing.{bits_in, count_in, Wrote, row_bits, value_bits_at, block_bits_of, value_bits_of, values_width}
 use Rattle.sbc_write.proofs.Flushing.{behind_more}
 
 -- ---- what is written
 -- nothing
-pub wrote_none : (w : Writer) → Wrote w w []
+pub wrote_none : (w : BodyWriter) → Wrote w w []
 wrote_none w = record {
   same_bytes = refl;
   same_length = refl;
@@ -33,17 +33,19 @@ wrote_none w = record {
 }
 
 -- and more
-pub wrote_more : (a b c : Writer) (xs ys : List Bool) → Wrote a b xs → Wrote b c ys → Wrote a c (xs ++ ys)
+pub wrote_more : (a b c : BodyWriter) (xs ys : List Bool) → Wrote a b xs → Wrote b c ys → Wrote a c (xs ++ ys)
 wrote_more a b c xs ys h k = record {
   same_bytes = k.same_bytes ∙ ap (λ r. at_last r c.bytes.now) h.same_bytes;
   same_length = k.same_length ∙ h.same_length;
   written = k.written ∙ ap (λ (l : List Bool). l ++ ys) h.written ∙ append_assoc (bits_in a) xs ys;
   counted = omega (arith, h.counted, k.counted, length-append xs ys);
-  behind = behind_more b.at c.at a.bytes.now b.bytes.now c.bytes.now (omega (arith, k.counted, c.held_within)) h.behind k.behind;
+  behind =
+      behind_more b.writer.at c.writer.at a.bytes.now b.bytes.now c.bytes.now
+      (omega (arith, k.counted, c.writer.held_within)) h.behind k.behind;
 }
 
 -- one field more
-pub one_more : (a b c : Writer) (n : ℕ) (f : ℕ → List Bool) → Wrote a b (collect n f) → Wrote b c (f n) → Wrote a c (collect (n + 1) f)
+pub one_more : (a b c : BodyWriter) (n : ℕ) (f : ℕ → List Bool) → Wrote a b (collect n f) → Wrote b c (f n) → Wrote a c (collect (n + 1) f)
 unfolding collect
 one_more a b c n f h k = rw add-one (wrote_more a b c (collect n f) (f n) h k)
 
@@ -62,7 +64,7 @@ length-block : (row : List ℤ) (widths factors : List ℕ) → length (block_bi
 unfolding block_bits_of
 length-block row widths factors = length-values 8 row widths factors
 
-module _ (a b : Writer) where
+module _ (a b : BodyWriter) where
   pub counted-field : (n v : ℕ) → Wrote a b (bits_of n v) → count_in b ≡ count_in a + n
   counted-field n v h = omega (arith, h.counted, length-bits_of n v)
 

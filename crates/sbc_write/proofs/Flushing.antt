@@ -14,7 +14,7 @@ use lib.Arith.{digits_lt}
 use Rattle.laws.specs.Bits.{odd, bits_of, bits_of_bytes, bytes_of}
 use Rattle.laws.proofs.Bits.{length-bits_of, length-bits_of_bytes, bits-low, bits-append, bits-of-append, bytes_bits, Bytes}
 use Rattle.sbc_frame.specs.Layout.{filled}
-use Rattle.sbc_write.specs.declared.Writer.{Writer}
+use Rattle.sbc_write.specs.declared.BodyWriter.{BodyWriter}
 use Rattle.sbc_write.specs.Writing.{bits_behind, bits_in, Wrote}
 
 -- ---- numbers
@@ -119,19 +119,19 @@ module _ (bytes : List ℕ) (small : Bytes bytes) (at bits : ℕ) where
       (sym (rw z (append-nil (before ++ []) ∙ append-nil before ∙ ap bits_of_bytes (take_all at bytes (omega arith)))))
 
 -- with zeros behind the bits held the last byte is full
-module _ (w r : Writer) (small : Bytes r.bytes.now) where
-  all-out : r.held ≡ 0 → r.at ≡ length r.bytes.now → bits_of_bytes r.bytes.now ≡ bits_in r
+module _ (w r : BodyWriter) (small : Bytes r.bytes.now) where
+  all-out : r.writer.held ≡ 0 → r.writer.at ≡ length r.bytes.now → bits_of_bytes r.bytes.now ≡ bits_in r
   unfolding bits_behind bits_of
   all-out none e =
       sym (append-nil (bits_of_bytes r.bytes.now))
-      ∙ ap₂ {C = List Bool} ◌++◌ (ap bits_of_bytes (sym (take_all r.at r.bytes.now (omega arith)))) (sym (rw none))
+      ∙ ap₂ {C = List Bool} ◌++◌ (ap bits_of_bytes (sym (take_all r.writer.at r.bytes.now (omega arith)))) (sym (rw none))
 
-  pub finished-zeros : Wrote w r (bits_of (8 - w.held) 0) → w.at + 1 ≡ length w.bytes.now → w.held ≤ 8
-      → r.held ≡ 0 → r.at ≡ length r.bytes.now → r.bytes.now ≡ filled (length w.bytes.now) (bits_in w)
+  pub finished-zeros : Wrote w r (bits_of (8 - w.writer.held) 0) → w.writer.at + 1 ≡ length w.bytes.now → w.writer.held ≤ 8
+      → r.writer.held ≡ 0 → r.writer.at ≡ length r.bytes.now → r.bytes.now ≡ filled (length w.bytes.now) (bits_in w)
   finished-zeros put e h none full =
-      let room : 8 - w.held ≡ 8 * length r.bytes.now - length (bits_in w) =
-      omega (arith, put.same_length, length-in w.bytes.now w.at w.held w.bits (omega arith)) in
+      let room : 8 - w.writer.held ≡ 8 * length r.bytes.now - length (bits_in w) =
+      omega (arith, put.same_length, length-in w.bytes.now w.writer.at w.writer.held w.writer.bits (omega arith)) in
       filled-by r.bytes.now (bits_in w) small
       (all-out none full ∙ put.written
-      ∙ ap (λ (l : List Bool). bits_in w ++ l) (bits-zero (8 - w.held) ∙ ap (λ (n : ℕ). replicate n false) room))
+      ∙ ap (λ (l : List Bool). bits_in w ++ l) (bits-zero (8 - w.writer.held) ∙ ap (λ (n : ℕ). replicate n false) room))
       ∙ ap (λ (n : ℕ). filled n (bits_in w)) put.same_length

@@ -9,7 +9,7 @@ use Rattle.sbc_quantizer.specs.Quantizing.{quantize}
 use Rattle.sbc_frame.specs.Arrays.{entry, rows_of}
 use Rattle.sbc_frame.specs.declared.blocks.Blocks.{Blocks}
 use Rattle.sbc_frame.specs.declared.Quantization.{Quantization}
-use Rattle.sbc_write.specs.declared.Writer.{Writer}
+use Rattle.sbc_write.specs.declared.BodyWriter.{BodyWriter}
 
 -- ---- a writer
 -- what is written into bytes: the first whole bytes, and a number of bits behind them
@@ -17,25 +17,25 @@ unfoldable pub bits_behind : List ℕ → ℕ → ℕ → ℕ → List Bool
 bits_behind bytes at held bits = bits_of_bytes (take at bytes) ++ bits_of held bits
 
 -- what a writer has written, from the first bit on: whole bytes, and the bits that it still holds
-abbrev pub bits_in : Writer → List Bool
-bits_in w = bits_behind w.bytes.now w.at w.held w.bits
+abbrev pub bits_in : BodyWriter → List Bool
+bits_in w = bits_behind w.bytes.now w.writer.at w.writer.held w.writer.bits
 
 -- how many bits that are
-abbrev pub count_in : Writer → ℕ
-count_in w = 8 * w.at + w.held
+abbrev pub count_in : BodyWriter → ℕ
+count_in w = 8 * w.writer.at + w.writer.held
 
 -- its bytes have room for n bits more
-abbrev pub Room : Writer → ℕ → Type 0
+abbrev pub Room : BodyWriter → ℕ → Type 0
 Room w n = count_in w + n ≤ 8 * length w.bytes.now
 
 -- what a call writes: some bits behind those before, into the same bytes in memory, and no byte behind the last that is written is touched.
 -- `at_last x l` is the borrow x, with the bytes l in it
-pub record Wrote (before after : Writer) (bits : List Bool) : Type 0 where
+pub record Wrote (before after : BodyWriter) (bits : List Bool) : Type 0 where
   pub same_bytes : after.bytes ≡ at_last before.bytes after.bytes.now
   pub same_length : length after.bytes.now ≡ length before.bytes.now
   pub written : bits_in after ≡ bits_in before ++ bits
   pub counted : count_in after ≡ count_in before + length bits
-  pub behind : drop after.at after.bytes.now ≡ drop after.at before.bytes.now
+  pub behind : drop after.writer.at after.bytes.now ≡ drop after.writer.at before.bytes.now
 
 -- ---- the fields
 -- `count` numbers of a row, of so many bits each

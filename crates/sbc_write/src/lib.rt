@@ -6,21 +6,27 @@ ghost use Rattle.std.specs.Prelude.{ℕ, ◌+◌, ◌*◌, ◌^◌, ◌≤◌, �
 use sbc_frame::{BlockCount, Blocks, Quantization};
 use sbc_quantizer::quantize;
 
-// The bytes lent for a body, where the next whole one goes, and the bits that do not fill a byte yet. That each byte is below 256 is said
-// here, since the check knows it of a slice, but not of one that a field lends.
-#[derive(Drop)]
-pub struct Writer<'a> {
-    pub bytes: &'a mut [u8],
+// Where the next whole byte goes, and the bits that do not fill a byte yet.
+#[derive(Clone, Copy)]
+pub struct Writer {
     pub at: usize,
     pub held: u32,
     pub bits: u64,
     pub ghost held_within: { held < 8 },
     pub ghost bits_within: { bits < 2 ^ held },
+}
+
+// The bytes lent for a body, and how far they are written. That each byte is below 256 is said here, since the check knows it of a slice,
+// but not of one that a field lends.
+#[derive(Drop)]
+pub struct BodyWriter<'a> {
+    pub bytes: &'a mut [u8],
+    pub writer: Writer,
     pub ghost bytes_within: { (i : ℕ) → get_or bytes.now i 0 < 256 },
 }
 
-impl<'a> Writer<'a> {
-    ghost use Rattle.std.specs.Prelude.{◌≡◌, []};
+impl<'a> BodyWriter<'a> {
+    ghost use Rattle.std.specs.Prelude.{◌≡◌, ◌-◌, []};
     ghost use denote.Ref.{at_last};
     ghost use Rattle.laws.specs.Bits.{bits_of};
     ghost use Rattle.laws.specs.Lists.{total};
@@ -31,16 +37,18 @@ impl<'a> Writer<'a> {
 
     // A writer at the first bit.
     #[tactic(auto, unfolding(crate::specs::Writing::bits_behind, laws::specs::Bits::bits_of, laws::specs::Bits::bits_of_bytes))]
-    pub fn new(bytes: &'a mut [u8]) -> Writer<'a>
+    pub fn new(bytes: &'a mut [u8]) -> BodyWriter<'a>
         ensures same_bytes { result.bytes ≡ bytes.entry }
         ensures written { bits_in result ≡ [] }
         ensures counted { count_in result ≡ 0 }
     {
-        Writer {
+        BodyWriter {
             bytes,
-            at: 0,
-            held: 0,
-            bits: 0,
+            writer: Writer {
+                at: 0,
+                held: 0,
+                bits: 0,
+            },
         }
     }
 
@@ -53,28 +61,27 @@ impl<'a> Writer<'a> {
         requires room { Room self.old count }
         ensures { Wrote self.old self.new (bits_of count value) }
     {
-        let mut at = self.at;
-        let mut held = self.held + count;
-        let mut bits = (self.bits << count) + u64::from(value);
+        let mut at = self.writer.at;
+        let mut held = self.writer.held + count;
+        let mut bits = (self.writer.bits << count) + u64::from(value);
         while 8 <= held {
             held -= 8;
             self.bytes[at] = (bits >> held) as u8;
             bits %= 1 << held;
             at += 1;
         }
-        self.at = at;
-        self.held = held;
-        self.bits = bits;
+        self.writer = Writer { at, held, bits };
     }
 
     // The bits that do not fill a byte, with zeros behind them.
     pub fn finish(&mut self)
         requires room { Room self.old 0 }
         requires last { 8 * length self.old.bytes.now < count_in self.old + 8 }
-        ensures { self.new.bytes ≡ at_last self.old.bytes (filled (length self.old.bytes.now) (bits_in self.old)) }
+        ensures whole { self.new.bytes ≡ at_last self.old.bytes (filled (length self.old.bytes.now) (bits_in self.old)) }
+        ensures zeros { let w = self.old in Wrote w self.new (bits_of (8 * length w.bytes.now - count_in w) 0) }
     {
-        if 0 < self.held {
-            self.put(0, 8 - self.held);
+        if 0 < self.writer.held {
+            self.put(0, 8 - self.writer.held);
         }
     }
 

@@ -16,17 +16,17 @@ use Rattle.sbc_allocation.specs.Allocate.{allocation_table}
 use Rattle.sbc_frame.specs.declared.CodedFrame.{CodedFrame}
 use Rattle.sbc_frame.proofs.Positions.{body_width, body-room}
 use Rattle.sbc_frame.proofs.Sizes.{row-sizes}
-use Rattle.sbc_write.specs.declared.Writer.{Writer}
+use Rattle.sbc_write.specs.declared.BodyWriter.{BodyWriter}
 use Rattle.sbc_write.specs.Writing.{Room, Wrote, count_in, row_bits, value_bits_of, values_width}
 use Rattle.sbc_write.proofs.Fields.{wrote_more, counted-row, counted-blocks, row-front, value-bits_pair}
 use Rattle.sbc_write_frame.specs.Framing.{coding_bits}
 
 -- the front of a row, of as many numbers as the code counts, is so many numbers of the row
 module _ (row : List ℕ) (width k n : ℕ) (e : k ≡ n) (h : n ≤ length row) where
-  pub front-room : (w : Writer) → Room w (n * width) → Room w (length (take k row) * width)
+  pub front-room : (w : BodyWriter) → Room w (n * width) → Room w (length (take k row) * width)
   front-room w room = rw (e, length-take-le n row h) room
 
-  pub front-wrote : (a b : Writer) → Wrote a b (row_bits (take k row) width (length (take k row))) → Wrote a b (row_bits row width n)
+  pub front-wrote : (a b : BodyWriter) → Wrote a b (row_bits (take k row) width (length (take k row))) → Wrote a b (row_bits row width n)
   front-wrote a b w = subst (λ (l : List Bool). Wrote a b l) (row-front row width n h) (rw e at w)
 
 -- how many scale factors the second channel has, as the code counts subbands and channels
@@ -34,7 +34,8 @@ pub others_is : (p : SbcParameters) (s n : ℕ) → s ≡ p.subbands → n ≡ c
 others_is p s n e f = ap₂ {C = ℕ} (λ x y. x * (y - 1)) e f
 
 module _ (accepted : AcceptedSet) (coding : CodedFrame) (eight : length coding.flags ≡ 8) (size : ℕ)
-    (whole : size + 4 ≡ frame_length accepted.set) (none : Writer) (start : count_in none ≡ 0) (long : length none.bytes.now ≡ size) where
+    (whole : size + 4 ≡ frame_length accepted.set)
+    (none : BodyWriter) (start : count_in none ≡ 0) (long : length none.bytes.now ≡ size) where
   abbrev p : SbcParameters
   p = accepted.set
 
@@ -64,7 +65,7 @@ module _ (accepted : AcceptedSet) (coding : CodedFrame) (eight : length coding.f
     pub flags-room : Room none (length (take joins coding.flags) * 1)
     flags-room = front-room coding.flags 1 joins (join_count p) j joins-in none (omega (arith, fits.0))
 
-    module _ (flagged : Writer) (f : Wrote none flagged (row_bits (take joins coding.flags) 1 (length (take joins coding.flags))))
+    module _ (flagged : BodyWriter) (f : Wrote none flagged (row_bits (take joins coding.flags) 1 (length (take joins coding.flags))))
         (subbands : ℕ) (s : subbands ≡ p.subbands) where
       flags-wrote : Wrote none flagged (row_bits coding.flags 1 (join_count p))
       flags-wrote = front-wrote coding.flags 1 joins (join_count p) j joins-in none flagged f
@@ -74,7 +75,7 @@ module _ (accepted : AcceptedSet) (coding : CodedFrame) (eight : length coding.f
           front-room (row 0) 4 subbands p.subbands s left-in flagged
           (omega (arith, counted-row _ _ _ _ _ flags-wrote, flags-wrote.same_length, fits.0))
 
-      module _ (half : Writer) (l : Wrote flagged half (row_bits (take subbands (row 0)) 4 (length (take subbands (row 0)))))
+      module _ (half : BodyWriter) (l : Wrote flagged half (row_bits (take subbands (row 0)) 4 (length (take subbands (row 0)))))
           (others : ℕ) (o : others ≡ p.subbands * (channels p - 1)) where
         left-wrote : Wrote flagged half (row_bits (row 0) 4 p.subbands)
         left-wrote = front-wrote (row 0) 4 subbands p.subbands s left-in flagged half l
@@ -91,7 +92,7 @@ module _ (accepted : AcceptedSet) (coding : CodedFrame) (eight : length coding.f
               fits.0,
             ))
 
-        module _ (side : Writer) (r : Wrote half side (row_bits (take others (row 1)) 4 (length (take others (row 1)))))
+        module _ (side : BodyWriter) (r : Wrote half side (row_bits (take others (row 1)) 4 (length (take others (row 1)))))
             (widths : List (List ℕ)) (w : widths ≡ table) (blocks : ℕ) (b : blocks ≡ p.blocks) where
           right-wrote : Wrote half side (row_bits (row 1) 4 (p.subbands * (channels p - 1)))
           right-wrote = front-wrote (row 1) 4 others (p.subbands * (channels p - 1)) o right-in half side r
@@ -108,7 +109,7 @@ module _ (accepted : AcceptedSet) (coding : CodedFrame) (eight : length coding.f
           pub values-room : Room side (blocks * values_width widths)
           values-room = rw (b, w) (omega (arith, before, flags-wrote.same_length, left-wrote.same_length, right-wrote.same_length, fits.0))
 
-          module _ (end : Writer)
+          module _ (end : BodyWriter)
               (v : Wrote side end (value_bits_of coding.samples (both widths) (both coding.factors.rows) blocks)) where
             values-wrote : Wrote side end (value_bits_of coding.samples table coding.factors.rows p.blocks)
             values-wrote = rw (b, w) at (subst (Wrote side end) (value-bits_pair coding.samples widths coding.factors.rows blocks) v)

@@ -9,7 +9,7 @@ ghost use Rattle.sbc_write_frame.specs.Framing.{coding_bits, coding_bytes};
 use sbc_allocation::allocate;
 use sbc_frame::{BlockCount, CodedFrame, Quantization};
 use sbc_parameters::AcceptedSet;
-use sbc_write::Writer;
+use sbc_write::BodyWriter;
 
 // The body of a frame, behind its header and checksum.
 fn write_body(accepted: AcceptedSet, body: &mut [u8], coding: &CodedFrame)
@@ -33,7 +33,7 @@ fn write_body(accepted: AcceptedSet, body: &mut [u8], coding: &CodedFrame)
             factors: factors[1],
         },
     ];
-    let mut writer = Writer::new(body);
+    let mut writer = BodyWriter::new(body);
     writer.put_row(&coding.flags[..joins], 1);
     writer.put_row(&factors[0][..subbands], 4);
     writer.put_row(&factors[1][..others], 4);

@@ -104,10 +104,10 @@ returns c =
     in
     let size : length c.put_values.new.self.bytes.now ≡ frame_length p - 4 = omega (arith, all.same_length, long, c.requires) in
     let done : c.finish.new.self.bytes.now ≡ filled (frame_length p - 4) (coding_bits p k.flags k.factors.rows k.samples) =
-    ap (λ r. r.now) c.finish.ensures ∙ ap₂ filled size bits
+    ap (λ r. r.now) c.finish.ensures.whole ∙ ap₂ filled size bits
     in
     let same : c.finish.new.self.bytes.ghost_name ≡ c.new-writer.result.bytes.ghost_name =
-    ap (λ r. r.ghost_name) (c.finish.ensures) ∙ ap (λ r. r.ghost_name) all.same_bytes
+    ap (λ r. r.ghost_name) c.finish.ensures.whole ∙ ap (λ r. r.ghost_name) all.same_bytes
     in
     let lent = ap (λ r. r.ghost_name) c.new-writer.ensures.same_bytes in
     grind arith

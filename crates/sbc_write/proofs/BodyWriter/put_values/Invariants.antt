@@ -1,8 +1,8 @@
--- `sbc_write::Writer::put_values` meets its contract. The loop's invariant: the values of the blocks passed are written.
+-- `sbc_write::BodyWriter::put_values` meets its contract. The loop's invariant: the values of the blocks passed are written.
 -- Assumes nothing.
 use Prim.Native.Nat.{◌≤◌}
 use Rattle.sbc_write.specs.Writing.{Wrote, value_bits_of, widths_of, factors_of}
-use Rattle.sbc_write.proofs.Writer.put_values.Given as goal
+use Rattle.sbc_write.proofs.BodyWriter.put_values.Given as goal
 
 abbrev pub invariant-loop-block : goal.invariant-loop-block
 invariant-loop-block l =

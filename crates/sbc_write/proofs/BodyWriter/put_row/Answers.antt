@@ -1,4 +1,4 @@
--- `sbc_write::Writer::put_row` meets its contract.
+-- `sbc_write::BodyWriter::put_row` meets its contract.
 -- Assumes nothing.
 use Prim.Native.Nat.{ℕ, ◌+◌, ◌≤◌}
 use native.Mathlib.Nat.{add-mul, mul-le-mul_right}
@@ -9,7 +9,7 @@ use Rattle.laws.specs.Bits.{bits_of}
 use Rattle.sbc_frame.specs.Arrays.{entry}
 use Rattle.sbc_write.specs.Writing.{row_bits}
 use Rattle.sbc_write.proofs.Fields.{wrote_none, one_more, counted-row}
-use Rattle.sbc_write.proofs.Writer.put_row.Goals as goal
+use Rattle.sbc_write.proofs.BodyWriter.put_row.Goals as goal
 
 pub loop-entry-init : goal.loop-entry-init
 unfolding row_bits collect

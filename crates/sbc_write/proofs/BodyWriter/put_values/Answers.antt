@@ -1,4 +1,4 @@
--- `sbc_write::Writer::put_values` meets its contract.
+-- `sbc_write::BodyWriter::put_values` meets its contract.
 -- Assumes nothing.
 use Prim.Native.Nat.{ℕ, ◌+◌, ◌*◌, ◌≤◌, ◌<◌}
 use mathlib.Core.Path.{◌≡◌, ap}
@@ -12,10 +12,10 @@ use Rattle.std.proofs.lemmas.List.{get_or-map}
 use Rattle.laws.specs.Lists.{collect, total}
 use Rattle.sbc_frame.specs.Arrays.{entry, rows_of}
 use Rattle.sbc_frame.specs.declared.Quantization.{Quantization}
-use Rattle.sbc_write.specs.declared.Writer.{Writer}
+use Rattle.sbc_write.specs.declared.BodyWriter.{BodyWriter}
 use Rattle.sbc_write.specs.Writing.{Wrote, block_bits_of, value_bits_of, values_width, widths_of, factors_of}
 use Rattle.sbc_write.proofs.Fields.{wrote_none, wrote_more, one_more, counted-block, counted-blocks}
-use Rattle.sbc_write.proofs.Writer.put_values.Goals as goal
+use Rattle.sbc_write.proofs.BodyWriter.put_values.Goals as goal
 
 pub loop-block-init : goal.loop-block-init
 unfolding value_bits_of collect
@@ -29,7 +29,7 @@ module _ (qs : List Quantization) (c : ℕ) (d : Quantization) (lt : c < length 
   width-at : total 8 (entry (get_or (widths_of qs) c [])) ≡ total 8 (entry (get_or qs c d).widths)
   width-at = ap (λ (row : List ℕ). total 8 (entry row)) widths-at
 
-  wrote-at : (a b : Writer) (row : List ℤ) → Wrote a b (block_bits_of row (get_or qs c d).widths (get_or qs c d).factors)
+  wrote-at : (a b : BodyWriter) (row : List ℤ) → Wrote a b (block_bits_of row (get_or qs c d).widths (get_or qs c d).factors)
       → Wrote a b (block_bits_of row (get_or (widths_of qs) c []) (get_or (factors_of qs) c []))
   wrote-at a b row h = rw (widths-at, get_or-map (λ q. q.factors) qs c d [] lt) h
 

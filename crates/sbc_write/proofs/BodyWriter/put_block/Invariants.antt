@@ -1,9 +1,9 @@
--- `sbc_write::Writer::put_block` meets its contract. The loop's invariant: the values of the subbands passed are written.
+-- `sbc_write::BodyWriter::put_block` meets its contract. The loop's invariant: the values of the subbands passed are written.
 -- Assumes nothing.
 use Prim.Native.Nat.{◌≤◌}
 use Rattle.laws.specs.Lists.{collect}
 use Rattle.sbc_write.specs.Writing.{Wrote, value_bits_at}
-use Rattle.sbc_write.proofs.Writer.put_block.Given as goal
+use Rattle.sbc_write.proofs.BodyWriter.put_block.Given as goal
 
 abbrev pub invariant-loop-s : goal.invariant-loop-s
 invariant-loop-s l =

@@ -1,4 +1,4 @@
--- `sbc_write::Writer::put_block` meets its contract.
+-- `sbc_write::BodyWriter::put_block` meets its contract.
 -- Assumes nothing.
 use Prim.Native.Nat.{ℕ, ◌^◌, ◌<◌}
 use mathlib.Core.Path.{◌≡◌, sym, ap, ◌∙◌, subst}
@@ -17,8 +17,8 @@ use Rattle.sbc_frame.specs.Arrays.{entry}
 use Rattle.sbc_write.specs.Writing.{Wrote, value_bits_at, block_bits_of}
 use Rattle.sbc_frame.proofs.Positions.{total-below}
 use Rattle.sbc_write.proofs.Fields.{wrote_none, one_more, counted-values}
-use Rattle.sbc_write.proofs.Writer.put_block.Goals as goal
-use Rattle.sbc_write.proofs.Writer.put_block.Goals.{then-width-ne0, else-width-ne0}
+use Rattle.sbc_write.proofs.BodyWriter.put_block.Goals as goal
+use Rattle.sbc_write.proofs.BodyWriter.put_block.Goals.{then-width-ne0, else-width-ne0}
 
 -- a subband of 0 bits has none
 no_value : (row : List ℤ) (widths factors : List ℕ) (s : ℕ) → entry widths s ≡ 0 → [] ≡ value_bits_at row widths factors s

@@ -1,12 +1,12 @@
--- `sbc_write::Writer::put` meets its contract. The loop's invariant: what the writer has written is what it had before the first byte was
--- flushed, and the bytes behind are as they were. The measure is the number of bits held.
+-- `sbc_write::BodyWriter::put` meets its contract. The loop's invariant: what the writer has written is what it had before the first byte
+-- was flushed, and the bytes behind are as they were. The measure is the number of bits held.
 -- Assumes nothing.
 use Prim.Native.Nat.{◌+◌, ◌*◌, ◌^◌, ◌≤◌, ◌<◌}
 use mathlib.Core.Path.{◌≡◌}
 use lib.ListN.{length, drop}
 use denote.Ref.{at_last}
 use Rattle.sbc_write.specs.Writing.{bits_behind}
-use Rattle.sbc_write.proofs.Writer.put.Given as goal
+use Rattle.sbc_write.proofs.BodyWriter.put.Given as goal
 
 abbrev pub invariant-loop-held : goal.invariant-loop-held
 invariant-loop-held l = record {

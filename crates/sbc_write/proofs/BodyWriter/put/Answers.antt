@@ -1,4 +1,4 @@
--- `sbc_write::Writer::put` meets its contract.
+-- `sbc_write::BodyWriter::put` meets its contract.
 -- Assumes nothing.
 use Prim.Native.Nat.{ℕ, ◌+◌, ◌-◌, ◌*◌, ◌/◌, ◌%◌, ◌^◌, ◌≤◌, ◌<◌}
 use mathlib.Core.Path.{◌≡◌, refl, ap, ◌∙◌}
@@ -10,19 +10,24 @@ use lib.Seq.{drop-set-lt}
 use lib.Pow.{pow_pos, pow_mono, shl_exact}
 use denote.Ref.{at_last}
 use Rattle.laws.proofs.Bits.{length-bits_of}
+use Rattle.sbc_write.specs.declared.Writer.{Writer}
 use Rattle.sbc_write.proofs.Flushing.{bytes-set, joined-lt, byte-lt, unit, behind_more, taken-up, flushed}
-use Rattle.sbc_write.proofs.Writer.put.Goals as goal
+use Rattle.sbc_write.proofs.BodyWriter.put.Goals as goal
 
 -- the bits held and a field behind them, within a word
-joined : (held bits value count : ℕ) → held < 8 → bits < 2 ^ held → value < 2 ^ count → count ≤ 16
-    → ((bits * 2 ^ count) % 2 ^ 64 ≡ bits * 2 ^ count) × (bits * 2 ^ count + value < 2 ^ (held + count)) × (2 ^ (held + count) ≤ 2 ^ 23)
-joined held bits value count h b v k =
-    (shl_exact held count 64 b (omega arith), joined-lt held count bits value b v, pow_mono {i = held + count} {j = 23} (omega arith))
+joined : (w : Writer) (value count : ℕ) → value < 2 ^ count → count ≤ 16
+    → ((w.bits * 2 ^ count) % 2 ^ 64 ≡ w.bits * 2 ^ count) × (w.bits * 2 ^ count + value < 2 ^ (w.held + count))
+    × (2 ^ (w.held + count) ≤ 2 ^ 23)
+joined w value count v k =
+    let few = w.held_within in (
+      shl_exact w.held count 64 w.bits_within (omega (arith, few)),
+      joined-lt w.held count w.bits value w.bits_within v,
+      pow_mono {i = w.held + count} {j = 23} (omega (arith, few)),
+    )
 
 pub loop-held-init : goal.loop-held-init
 loop-held-init c =
-    let w = c.args.self.now in
-    let up = joined w.held w.bits c.args.value c.args.count w.held_within w.bits_within c.requires.low c.requires.short in
+    let up = joined c.args.self.now.writer c.args.value c.args.count c.requires.low c.requires.short in
     record {
       few = omega arith;
       low = rw (up.0, c.from.ensures) up.1;
@@ -56,18 +61,19 @@ loop-held-preserved c =
 
 pub returns : goal.returns
 returns c =
-    let w = c.args.self.now in
     let v = c.loop-held.invariant in
-    let up = joined w.held w.bits c.args.value c.args.count w.held_within w.bits_within c.requires.low c.requires.short in
+    let bytes : List ℕ = c.args.self.now.bytes.now in
+    let w = c.args.self.now.writer in
+    let up = joined w c.args.value c.args.count c.requires.low c.requires.short in
     record {
       same_bytes = v.same_bytes;
       same_length = v.long;
-      written = v.written ∙ rw (up.0, c.from.ensures) (taken-up w.bytes.now w.at w.held w.bits c.args.value c.args.count c.requires.low);
+      written = v.written ∙ rw (up.0, c.from.ensures) (taken-up bytes w.at w.held w.bits c.args.value c.args.count c.requires.low);
       counted = omega (arith, length-bits_of c.args.count c.args.value);
       behind = v.behind;
     }
 
-pub invariant_of-self-clause-bytes_within : goal.invariant_of-self-clause-bytes_within
-invariant_of-self-clause-bytes_within c =
-    bytes-set c.loop-held.self.bytes.now c.loop-held.at _
-    (byte-lt c.loop-held.held c.loop-held.bits c.loop-held-test.true c.loop-held.invariant.low) c.loop-held.self.bytes_within
+pub invariant_of-self : goal.invariant_of-self
+invariant_of-self c =
+    let low = byte-lt c.loop-held.held c.loop-held.bits c.loop-held-test.true c.loop-held.invariant.low in
+    record { bytes_within = bytes-set c.loop-held.self.bytes.now c.loop-held.at _ low c.loop-held.self.bytes_within }
