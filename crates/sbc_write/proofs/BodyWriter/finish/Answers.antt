@@ -14,6 +14,7 @@ use Rattle.sbc_write.proofs.Flushing.{finished-whole, finished-zeros}
 use Rattle.sbc_write.proofs.Fields.{wrote_none, counted-field}
 use Rattle.sbc_write.proofs.BodyWriter.finish.Goals as goal
 
+-- the zeros part by part, each of which speaks of the numbers alone and not of the facts that a writer holds
 pub returns-then-self-gt0 : goal.returns-then-self-gt0
 returns-then-self-gt0 c =
     let w = c.args.self.now in
@@ -25,12 +26,20 @@ returns-then-self-gt0 c =
     omega (arith, count, put.same_length, none, c.requires.room, c.requires.last, w.writer.held_within) in
     let last : w.writer.at + 1 ≡ length w.bytes.now = omega (arith, c.requires.room, c.requires.last, w.writer.held_within) in
     let spare : 8 - w.writer.held ≡ 8 * length w.bytes.now - count_in w = omega (arith, last, w.writer.held_within) in
+    let wrote = subst (λ (n : ℕ). Wrote w r (bits_of n 0)) spare put in
     record {
       whole =
           put.same_bytes
           ∙ ap (λ (l : List ℕ). at_last w.bytes l)
           (finished-zeros w r r.bytes_within put last (omega (arith, w.writer.held_within)) none full);
-      zeros = subst (λ (n : ℕ). Wrote w r (bits_of n 0)) spare put;
+      zeros =
+          record {
+            same_bytes = wrote.same_bytes;
+            same_length = wrote.same_length;
+            written = wrote.written;
+            counted = wrote.counted;
+            behind = wrote.behind;
+          };
     }
 
 pub returns-else-self-gt0 : goal.returns-else-self-gt0
