@@ -73,7 +73,7 @@ impl Encoding {
     }
 }
 
-fn encode_all(rt: &(impl Env + AllocGlobal + Input + Print)) -> Result<(), Stop> {
+fn encode_all(rt: &(impl Env + Input + Print)) -> Result<(), Stop> {
     let mut raw = [0u8; 32768];
     let mut encoding = Encoding {
         encoder: SbcEncoder::new(settings::of_arguments(rt)?)?,

@@ -4,31 +4,28 @@ use sbc_modes::{SbcAllocation, SbcChannelMode};
 use sbc_parameters::SbcParameters;
 use std::env::{Env, FillError};
 use std::num::ParseIntError;
+use std::str;
 use std::str::FromStr;
-use std::{io, str};
-use stream::Stop;
 
 // The bytes of the longest word that a setting may have.
 const LONGEST: usize = 16;
 
-// The words behind the program's name. One that is no text, or too long, is no setting.
+// Word i of the arguments, read into the space: none where there are fewer. One that is no text, or too long, is no setting.
 //
-// Kept: `env::args` would refuse a program's name that is no text, too, and this program takes any name.
-fn words(rt: &(impl Env + AllocGlobal)) -> Result<Vec<String>, Stop> {
-    let mut words = Vec::new(rt.alloc());
-    for i in 1..usize::MAX {
-        let mut space = [0u8; LONGEST];
-        match rt.arg(i, &mut space) {
-            Ok(count) => {
-                let word = str::from_utf8(&space[..count]).map_err(|_| Error::InvalidParameter)?;
-                let word = String::from_str(rt.alloc(), word).map_err(io::Error::from)?;
-                words.push(word).map_err(io::Error::from)?;
-            }
-            Err(FillError::TooLong) => return Err(Stop::Refused(Error::InvalidParameter)),
-            Err(FillError::NotPresent) => break,
+// Kept: `env::args` would refuse a program's name that is no text, too, and this program takes any name; and it takes memory.
+fn word_at<'a>(
+    rt: &impl Env,
+    i: usize,
+    space: &'a mut [u8; LONGEST],
+) -> Result<Option<&'a str>, Error> {
+    match rt.arg(i, space) {
+        Ok(count) => {
+            let word = str::from_utf8(&space[..count]).map_err(|_| Error::InvalidParameter)?;
+            Ok(Some(word))
         }
+        Err(FillError::TooLong) => Err(Error::InvalidParameter),
+        Err(FillError::NotPresent) => Ok(None),
     }
-    Ok(words)
 }
 
 // A number of digits alone.
@@ -58,18 +55,39 @@ fn allocation(word: &str) -> Result<SbcAllocation, Error> {
     }
 }
 
-// The arguments' parameters: HIGH_QUALITY where there are none, and else those of six words; whether they are accepted shows later.
-pub fn of_arguments(rt: &(impl Env + AllocGlobal)) -> Result<SbcParameters, Stop> {
-    match words(rt)?.as_slice() {
-        [] => Ok(SbcParameters::HIGH_QUALITY),
-        [rate, mode, method, blocks, subbands, bitpool] => Ok(SbcParameters {
-            sample_rate: number(rate.as_str())?,
-            channel_mode: channel_mode(mode.as_str())?,
-            allocation: allocation(method.as_str())?,
-            blocks: number(blocks.as_str())?,
-            subbands: number(subbands.as_str())?,
-            bitpool: number(bitpool.as_str())?,
-        }),
-        _ => Err(Stop::Refused(Error::InvalidParameter)),
+// The arguments' parameters: HIGH_QUALITY where there are none, and else those of six words; whether they are accepted shows later. A
+// seventh word is one too many, and none behind it is read. Argument 0 is the program's name.
+pub fn of_arguments(rt: &impl Env) -> Result<SbcParameters, Error> {
+    let [mut a, mut b, mut c, mut d, mut e, mut f, mut g] = [[0u8; LONGEST]; 7];
+    let words = [
+        word_at(rt, 1, &mut a)?,
+        word_at(rt, 2, &mut b)?,
+        word_at(rt, 3, &mut c)?,
+        word_at(rt, 4, &mut d)?,
+        word_at(rt, 5, &mut e)?,
+        word_at(rt, 6, &mut f)?,
+        word_at(rt, 7, &mut g)?,
+    ];
+    match words {
+        [None, ..] => Ok(SbcParameters::HIGH_QUALITY),
+        [
+            Some(rate),
+            Some(mode),
+            Some(method),
+            Some(blocks),
+            Some(subbands),
+            Some(bitpool),
+            None,
+        ] => {
+            Ok(SbcParameters {
+                sample_rate: number(rate)?,
+                channel_mode: channel_mode(mode)?,
+                allocation: allocation(method)?,
+                blocks: number(blocks)?,
+                subbands: number(subbands)?,
+                bitpool: number(bitpool)?,
+            })
+        }
+        _ => Err(Error::InvalidParameter),
     }
 }
