@@ -1,5 +1,4 @@
 // How a run ends: with its input, or by a failure.
-use std::alloc::AllocError;
 use std::error::Error;
 use std::{fmt, io};
 
@@ -24,11 +23,5 @@ impl Error for End {}
 impl From<io::Error> for End {
     fn from(error: io::Error) -> End {
         End::Failed(error)
-    }
-}
-
-impl From<AllocError> for End {
-    fn from(error: AllocError) -> End {
-        End::Failed(io::Error::from(error))
     }
 }

@@ -26,12 +26,14 @@ use sbc_decoder::SbcDecoder;
 use sbc_encoder::SbcEncoder;
 use sbc_modes::{SbcAllocation, SbcChannelMode};
 use sbc_parameters::SbcParameters;
-use std::alloc::Global;
 use std::io;
 use std::io::{Read, Write};
 
 // The most bytes or samples of a buffer.
 const LONGEST: usize = 65_536;
+
+// The bytes of so many samples.
+const LONGEST_RAW: usize = 2 * LONGEST;
 
 // The two codecs, between the requests and the answers.
 #[derive(Drop)]
@@ -40,7 +42,14 @@ struct Replay<R, W> {
     output: W,
     decoder: SbcDecoder,
     encoder: SbcEncoder,
-    alloc: Global,
+}
+
+// The buffers, of which a request takes the fronts. The raw one is for the samples as they come and go.
+#[derive(Drop)]
+struct Buffers<'a> {
+    bytes: &'a mut [u8; LONGEST],
+    samples: &'a mut [i16; LONGEST],
+    raw: &'a mut [u8; LONGEST_RAW],
 }
 
 // The set of nine bytes; a mode or an allocation past the last counts as the last.
@@ -81,6 +90,16 @@ fn error_byte<T: Copy>(answer: Result<T, Error>) -> u8 {
     answer.err().map_or(0, u8::from)
 }
 
+// A length of the input, where a buffer may be so long.
+fn length(bytes: [u8; 4]) -> Result<usize, End>
+    ensures { IfOk result (λ n. n ≤ LONGEST) }
+{
+    usize::try_from(u32::from_le_bytes(bytes))
+        .ok()
+        .filter(|n| *n <= LONGEST)
+        .ok_or(End::Input)
+}
+
 impl<R: Read + Drop, W: Write + Drop> Replay<R, W> {
     fn fill(&mut self, buffer: &mut [u8]) -> Result<(), End> {
         self.input.read_exact(buffer).map_err(|_| End::Input)
@@ -93,15 +112,12 @@ impl<R: Read + Drop, W: Write + Drop> Replay<R, W> {
         Ok(bytes)
     }
 
-    // The next number of the input, where a buffer may be so long.
-    fn length(&mut self) -> Result<usize, End>
-        ensures { IfOk result (λ n. n ≤ LONGEST) }
+    // The next two lengths.
+    fn lengths(&mut self) -> Result<(usize, usize), End>
+        ensures { IfOk result (λ both. (both.0 ≤ LONGEST) × (both.1 ≤ LONGEST)) }
     {
-        let n = u32::from_le_bytes(self.next()?);
-        usize::try_from(n)
-            .ok()
-            .filter(|n| *n <= LONGEST)
-            .ok_or(End::Input)
+        let [a, b, c, d, e, f, g, h]: [u8; 8] = self.next()?;
+        Ok((length([a, b, c, d])?, length([e, f, g, h])?))
     }
 
     fn answer(&mut self, bytes: &[u8]) -> Result<(), End> {
@@ -117,11 +133,12 @@ impl<R: Read + Drop, W: Write + Drop> Replay<R, W> {
         self.answer(&progress.produced.to_le_bytes())
     }
 
-    fn parse(&mut self) -> Result<(), End> {
+    fn parse(&mut self, buffers: Buffers<'_>) -> Result<(), End> {
         let count = usize::from(u16::from_le_bytes(self.next()?));
-        let mut bytes = vec![in self.alloc; 0u8; count]?;
-        self.fill(&mut bytes)?;
-        let parsed = SbcParameters::parse(&bytes);
+        let Buffers { bytes, .. } = buffers;
+        let bytes = &mut bytes[..count];
+        self.fill(bytes)?;
+        let parsed = SbcParameters::parse(bytes);
         self.answer(&[error_byte(parsed)])?;
         self.answer(&parsed.map_or([0; 9], bytes_of))
     }
@@ -140,35 +157,41 @@ impl<R: Read + Drop, W: Write + Drop> Replay<R, W> {
         Ok(())
     }
 
-    // The raw buffer is for the samples as they come.
-    fn encode(&mut self) -> Result<(), End> {
-        let count = self.length()?;
-        let room = self.length()?;
-        let mut raw = vec![in self.alloc; 0u8; 2 * count]?;
-        let mut samples = vec![in self.alloc; 0i16; count]?;
-        let mut bytes = vec![in self.alloc; 0u8; room]?;
-        self.fill(&mut raw)?;
-        self.fill(&mut bytes)?;
-        pcm::read(&raw, &mut samples);
-        let coded = self.encoder.encode(&samples, &mut bytes);
+    fn encode(&mut self, buffers: Buffers<'_>) -> Result<(), End> {
+        let (count, room) = self.lengths()?;
+        let Buffers {
+            bytes,
+            samples,
+            raw,
+        } = buffers;
+        let raw = &mut raw[..2 * count];
+        let samples = &mut samples[..count];
+        let bytes = &mut bytes[..room];
+        self.fill(raw)?;
+        self.fill(bytes)?;
+        pcm::read(raw, samples);
+        let coded = self.encoder.encode(samples, bytes);
         self.answer_coded(coded)?;
-        self.answer(&bytes)
+        self.answer(bytes)
     }
 
-    // The raw buffer is for the samples as they come and go.
-    fn decode(&mut self) -> Result<(), End> {
-        let count = self.length()?;
-        let room = self.length()?;
-        let mut bytes = vec![in self.alloc; 0u8; count]?;
-        let mut raw = vec![in self.alloc; 0u8; 2 * room]?;
-        let mut samples = vec![in self.alloc; 0i16; room]?;
-        self.fill(&mut bytes)?;
-        self.fill(&mut raw)?;
-        pcm::read(&raw, &mut samples);
-        let coded = self.decoder.decode(&bytes, &mut samples);
-        pcm::write(&samples, &mut raw);
+    fn decode(&mut self, buffers: Buffers<'_>) -> Result<(), End> {
+        let (count, room) = self.lengths()?;
+        let Buffers {
+            bytes,
+            samples,
+            raw,
+        } = buffers;
+        let bytes = &mut bytes[..count];
+        let raw = &mut raw[..2 * room];
+        let samples = &mut samples[..room];
+        self.fill(bytes)?;
+        self.fill(raw)?;
+        pcm::read(raw, samples);
+        let coded = self.decoder.decode(bytes, samples);
+        pcm::write(samples, raw);
         self.answer_coded(coded)?;
-        self.answer(&raw)
+        self.answer(raw)
     }
 
     fn seek(&mut self) -> Result<(), End> {
@@ -215,14 +238,14 @@ impl<R: Read + Drop, W: Write + Drop> Replay<R, W> {
     // One request.
     //
     // Kept: each letter stands here once, beside its step; an enum of the requests would name each three times.
-    fn request(&mut self) -> Result<(), End> {
+    fn request(&mut self, buffers: Buffers<'_>) -> Result<(), End> {
         let [request]: [u8; 1] = self.next()?;
         match request {
-            b'P' => self.parse(),
+            b'P' => self.parse(buffers),
             b'V' => self.validate(),
             b'N' => self.new_encoder(),
-            b'E' => self.encode(),
-            b'D' => self.decode(),
+            b'E' => self.encode(buffers),
+            b'D' => self.decode(buffers),
             b'S' => self.seek(),
             b'F' => self.finish(),
             b'R' => self.reset_decoder(),
@@ -235,8 +258,15 @@ impl<R: Read + Drop, W: Write + Drop> Replay<R, W> {
 
     // Kept: the loop counts its turns, up to a number that no run uses up. A proved loop has to end, and nothing says that the input does.
     fn run(&mut self) -> Result<(), End> {
+        let mut bytes = [0; LONGEST];
+        let mut samples = [0; LONGEST];
+        let mut raw = [0; LONGEST_RAW];
         for _ in 0..u64::MAX {
-            self.request()?;
+            self.request(Buffers {
+                bytes: &mut bytes,
+                samples: &mut samples,
+                raw: &mut raw,
+            })?;
         }
         Ok(())
     }
@@ -248,7 +278,6 @@ fn main(rt: HostRuntime) -> io::Result<()> {
         output: io::writer(&rt),
         decoder: SbcDecoder::new(),
         encoder: SbcEncoder::silent(SbcParameters::HIGH_QUALITY),
-        alloc: rt.alloc(),
     };
     match replay.run() {
         Ok(()) | Err(End::Input) => Ok(()),
