@@ -1,6 +1,6 @@
 // Streams that the encoders of BlueZ and FFmpeg wrote, decoded, beside the samples of the Rust and of those codecs' own decoders. The files
-// stand in data/, with how they were made: NAME.sbc, NAME.rust.pcm and NAME.pcm.
-ghost use Rattle.std.specs.Prelude.{◌≡◌, ◌*◌, length};
+// stand in data/, with how they were made. Each buffer has more room than a file needs, so that a file that is too long shows.
+ghost use Rattle.std.specs.Prelude.{◌≡◌, ◌*◌, ◌≤◌, length};
 ghost use Rattle.sbc_figures.specs.Distance.{differing, farthest};
 ghost use Rattle.pcm.specs.Samples.{samples_in};
 
@@ -22,18 +22,35 @@ struct Distance {
     farthest: u16,
 }
 
-// Reads a file, or as much of it as comes: nothing where it cannot be opened, which is said on standard error.
-fn read_file(rt: &(impl Files + Eprint + AllocGlobal), path: &str) -> Vec<u8> {
-    let mut bytes = Vec::new(rt.alloc());
+// Reads until the buffer is full, the input ends or a read fails, and answers how many bytes came.
+fn read_full<R: Read>(input: &mut R, buffer: &mut [u8]) -> usize
+    ensures { result ≤ length buffer.new }
+{
+    let mut done = 0;
+    for _ in 0..buffer.len() {
+        match input.read(&mut buffer[done..]) {
+            Ok(0) | Err(_) => break,
+            Ok(count) => done += count,
+        }
+    }
+    done
+}
+
+// Reads a file into the buffer, as much of it as there is room for, and answers what came: nothing where it cannot be opened, which is said
+// on standard error.
+fn read_file<'a>(rt: &(impl Files + Eprint), path: &str, buffer: &'a mut [u8]) -> &'a [u8]
+    ensures { length result.now ≤ length buffer.old }
+{
     match File::open(rt, path) {
         Ok(mut file) => {
-            let _ = file.read_to_end(&mut bytes);
+            let count = read_full(&mut file, buffer);
+            &buffer[..count]
         }
         Err(error) => {
             let _ = eprintln!(rt; "{path}: {error}");
+            &[]
         }
     }
-    bytes
 }
 
 // How far the samples are from those of the bytes; there is room for just as many.
@@ -50,37 +67,33 @@ fn measure(samples: &[i16], raw: &[u8], theirs: &mut [i16]) -> Distance
 }
 
 // How far the samples are from a file's, where it has as many.
-fn beside(
-    rt: &(impl Files + Eprint + AllocGlobal),
-    samples: &[i16],
-    path: &str,
-) -> io::Result<Option<Distance>> {
-    let raw = read_file(rt, path);
+fn beside(rt: &(impl Files + Eprint), samples: &[i16], path: &str) -> Option<Distance> {
+    let mut space = [0u8; 32768];
+    let mut theirs = [0i16; 16384];
+    let raw = read_file(rt, path, &mut space);
+    let theirs = theirs.get_mut(..samples.len())?;
     if raw.len() != 2 * samples.len() {
-        return Ok(None);
+        return None;
     }
-    let mut theirs = vec![in rt.alloc(); 0i16; samples.len()]?;
-    Ok(Some(measure(samples, raw.as_slice(), theirs.as_mut_slice())))
+    Some(measure(samples, raw, theirs))
 }
 
-// The verdict: equal to the Rust, and near their own decoder.
+// The verdict: equal to the Rust, and near their own decoder. Each file is read just before its distance is written.
 fn show_distances(
-    rt: &(impl Files + Print + Eprint + AllocGlobal),
+    rt: &(impl Files + Print + Eprint),
     samples: &[i16],
-    name: &str,
+    rust: &str,
+    theirs: &str,
 ) -> io::Result<()> {
-    let rust = beside(
-        rt,
-        samples,
-        format!(in rt.alloc(); "{name}.rust.pcm")?.as_str(),
-    )?;
-    let theirs = beside(rt, samples, format!(in rt.alloc(); "{name}.pcm")?.as_str())?;
     let count = samples.len();
-    print!(rt; " {count} samples, the Rust's differ in ")?;
+    print!(rt; " {count}")?;
+    let rust = beside(rt, samples, rust);
+    print!(rt; " samples, the Rust's differ in ")?;
     match rust {
         Some(distance) => rt.print(distance.differing)?,
         None => rt.print("length")?,
     }
+    let theirs = beside(rt, samples, theirs);
     print!(rt; ", the greatest difference from its own decoder's ")?;
     match theirs {
         Some(distance) => rt.print(distance.farthest)?,
@@ -94,23 +107,23 @@ fn show_distances(
 
 // Decodes a stream in one call.
 fn stream(
-    rt: &(impl Files + Print + Eprint + AllocGlobal),
+    rt: &(impl Files + Print + Eprint),
     label: &str,
-    name: &str,
+    path: &str,
+    rust: &str,
+    theirs: &str,
 ) -> io::Result<()> {
-    let bytes = read_file(rt, format!(in rt.alloc(); "{name}.sbc")?.as_str());
-    let length = bytes.len();
+    let mut space = [0u8; 8192];
     let mut samples = [0i16; 16384];
+    let bytes = read_file(rt, path, &mut space);
+    let length = bytes.len();
     let mut decoder = SbcDecoder::new();
-    match decoder
-        .decode(bytes.as_slice(), &mut samples)
-        .map_err(Refusal)
-    {
+    match decoder.decode(bytes, &mut samples).map_err(Refusal) {
         Ok(progress) => {
             let consumed = progress.consumed;
             print!(rt; "{label} {consumed} bytes of {length},")?;
             match samples.get(..progress.produced) {
-                Some(decoded) => show_distances(rt, decoded, name),
+                Some(decoded) => show_distances(rt, decoded, rust, theirs),
                 None => Ok(()),
             }
         }
@@ -118,17 +131,32 @@ fn stream(
     }
 }
 
-pub fn show_all(rt: &(impl Files + Print + Eprint + AllocGlobal)) -> io::Result<()> {
-    for (label, name) in [
-        ("BlueZ joint", "joint"),
-        ("BlueZ dual", "dual"),
-        ("BlueZ stereo4", "stereo4"),
-        ("BlueZ mono", "mono"),
-        ("BlueZ msbc", "msbc"),
-        ("FFmpeg stereo", "ffmpeg_stereo"),
-        ("FFmpeg msbc", "ffmpeg_msbc"),
+pub fn show_all(rt: &(impl Files + Print + Eprint)) -> io::Result<()> {
+    for (label, path, rust, theirs) in [
+        ("BlueZ joint", "joint.sbc", "joint.rust.pcm", "joint.pcm"),
+        ("BlueZ dual", "dual.sbc", "dual.rust.pcm", "dual.pcm"),
+        (
+            "BlueZ stereo4",
+            "stereo4.sbc",
+            "stereo4.rust.pcm",
+            "stereo4.pcm",
+        ),
+        ("BlueZ mono", "mono.sbc", "mono.rust.pcm", "mono.pcm"),
+        ("BlueZ msbc", "msbc.sbc", "msbc.rust.pcm", "msbc.pcm"),
+        (
+            "FFmpeg stereo",
+            "ffmpeg_stereo.sbc",
+            "ffmpeg_stereo.rust.pcm",
+            "ffmpeg_stereo.pcm",
+        ),
+        (
+            "FFmpeg msbc",
+            "ffmpeg_msbc.sbc",
+            "ffmpeg_msbc.rust.pcm",
+            "ffmpeg_msbc.pcm",
+        ),
     ] {
-        stream(rt, label, name)?;
+        stream(rt, label, path, rust, theirs)?;
     }
     Ok(())
 }
