@@ -105,7 +105,8 @@ fn show_distances(
     println!(rt; ", {verdict}")
 }
 
-// Decodes a stream in one call.
+// Decodes a stream in one call. It is not inlined, so that what stands before the streams is written without the room of its buffers.
+#[inline(never)]
 fn stream(
     rt: &(impl Files + Print + Eprint),
     label: &str,
