@@ -6,6 +6,7 @@ use mathlib.Core.List.{[]}
 use native.Mathlib.Omega.{arith}
 use lib.ListN.{length}
 use borrow.Author.Rules.{rules}
+use Rattle.std.proofs.lemmas.List.{set-get_or}
 use Rattle.sbc_parameters.specs.Sizes.{frame_samples}
 use Rattle.sbc_parameters.proofs.Accepted.{channels-range}
 use Rattle.sbc_filterbank.specs.declared.synthesis.Synthesis.{Synthesis}
@@ -22,7 +23,8 @@ none = record { values = []; newest = 0 }
 pub loop-index-init : goal.loop-index-init
 loop-index-init c =
     let two : length c.args.histories.now ≡ 2 = search rules in
-    (omega arith, none_replaced _ _ _ two, woven-none _ _ _ _)
+    -- the loop begins with the histories as they were passed: told by what they hold, and not by how they came there
+    (omega arith, grind (arith, set-get_or) ∙ none_replaced _ _ c.args.histories.now two, woven-none _ _ _ _)
 
 pub play_channel-requires : goal.play_channel-requires
 play_channel-requires c =

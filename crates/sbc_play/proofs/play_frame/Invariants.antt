@@ -1,4 +1,5 @@
--- `sbc_play::play_frame` meets its contract. The loop's invariant: the channels before `index` are played.
+-- `sbc_play::play_frame` meets its contract. The loop's invariant: the channels before `index` are played, from the
+-- histories as they were passed.
 -- Assumes nothing.
 use Prim.Native.Nat.{◌≤◌}
 use mathlib.Core.Path.{◌≡◌}
@@ -12,7 +13,7 @@ use Rattle.sbc_play.proofs.play_frame.Given as goal
 abbrev pub invariant-loop-index : goal.invariant-loop-index
 invariant-loop-index l =
     let p = l.samples.accepted.set in
-    let H = l.initial.histories in
+    let H = l.fn.histories in
     (l.index ≤ l.count)
     × (l.histories ≡ replaced (after_of p H l.samples.channels) no_synthesis H l.index)
     × (l.output ≡ woven l.count (samples_per_channel p) (channel_of p H l.samples.channels) l.initial.output l.index)
