@@ -1,13 +1,11 @@
 -- The greatest absolute values of the subbands, block by block, and their scale factors.
 -- Assumes nothing.
 use Prim.Native.Nat.{ℕ, ◌+◌, ◌<◌, max}
-use mathlib.Core.Path.{◌≡◌, refl, ap, ap₂, ◌∙◌}
+use mathlib.Core.Path.{◌≡◌, refl, ap, ◌∙◌}
 use mathlib.Core.List.{List, []}
 use native.Mathlib.Numerals.{add-one}
-use native.Mathlib.Omega.{arith}
-use lib.ListN.{length, get_or, take, replicate, length-take}
-use lib.Seq.{get_or-take}
-use lib.IntN.{ℤ, pos, nat_abs}
+use lib.ListN.{get_or, replicate}
+use lib.IntN.{ℤ, nat_abs}
 use Rattle.laws.specs.Lists.{build, collect, greatest}
 use Rattle.laws.proofs.Lists.{get_or-build, build-ext}
 use Rattle.sbc_quantizer.specs.Quantizing.{scale_factor}
@@ -30,14 +28,12 @@ greatest-next : (n : ℕ) (f : ℕ → ℕ) → max (greatest n f) (f n) ≡ gre
 unfolding greatest
 greatest-next n f = rw add-one
 
--- one block more, of the first m
-pub maxima_next : (m n : ℕ) (xs : List (List ℤ)) → n < length (take m xs)
-    → raised (maxima_in n xs) (get_or (take m xs) n []) ≡ maxima_in (n + 1) xs
+-- one block more
+pub maxima_next : (n : ℕ) (xs : List (List ℤ)) → raised (maxima_in n xs) (get_or xs n []) ≡ maxima_in (n + 1) xs
 unfolding raised maxima_in
-maxima_next m n xs h =
+maxima_next n xs =
     build-ext 8 _ (maximum_in (n + 1) xs)
-    (λ s k. ap₂ (λ (i : ℕ) (row : List ℤ). max i (nat_abs (get_or row s (pos 0)))) (maximum-at n xs s k)
-    (get_or-take m xs n [] (omega (arith, length-take m xs))) ∙ greatest-next n (λ b. nat_abs (sample_at xs b s)))
+    (λ s k. ap (λ (i : ℕ). max i (nat_abs (sample_at xs n s))) (maximum-at n xs s k) ∙ greatest-next n (λ b. nat_abs (sample_at xs b s)))
 
 -- the scale factor of a subband's entry
 pub factor_of : (n : ℕ) (xs : List (List ℤ)) (s : ℕ) → s < 8 → scale_factor (entry (maxima_in n xs) s) ≡ scale_factor (maximum_in n xs s)

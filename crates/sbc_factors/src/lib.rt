@@ -1,18 +1,26 @@
 // The scale factors of a frame: of each subband, by its greatest sample.
 #![tactic(auto)]
 
-ghost use Rattle.std.specs.Prelude.{◌≡◌};
+ghost use Rattle.std.specs.Prelude.{◌≡◌, ◌<◌, [], get_or, max, nat_abs};
+ghost use Rattle.sbc_frame.specs.Encoding.{sample_at};
 ghost use Rattle.sbc_factors.specs.Factors.{maxima_in, raised, factors_in};
 
 use sbc_frame::{BlockCount, Blocks};
 use sbc_quantizer::scale_factor;
 use std::array;
 
-// The greatest absolute values of the subbands, with those of one block more.
-fn raise(top: &[u32; 8], row: &[i32; 8]) -> [u32; 8]
-    ensures { result ≡ raised top.now row.now }
+// The greatest absolute values of the subbands, with those of one block more. The closure says what it gives, so that its proof can
+// work out by arithmetic which sample is read.
+fn raise(top: &[u32; 8], samples: &Blocks, block: usize) -> [u32; 8]
+    requires { block < 16 }
+    ensures { result ≡ raised top.now (get_or samples.now.rows block []) }
 {
-    array::from_fn(|s| top[s].max(row[s].unsigned_abs()))
+    array::from_fn(
+        |s: usize| -> u32
+            requires { (s < 8) × (block < 16) }
+            ensures { result ≡ max (get_or top.entry.now s 0) (nat_abs (sample_at samples.entry.now.rows block s)) }
+        { top[s].max(samples.rows[block][s].unsigned_abs()) },
+    )
 }
 
 // The greatest absolute value of each subband.
@@ -21,8 +29,8 @@ fn maxima(samples: &Blocks, blocks: BlockCount) -> [u32; 8]
     ensures { result ≡ maxima_in blocks.count samples.now.rows }
 {
     let mut top = [0u32; 8];
-    for row in &samples.rows[..blocks.count] {
-        top = raise(&top, row);
+    for block in 0..blocks.count {
+        top = raise(&top, samples, block);
     }
     top
 }
