@@ -5,7 +5,8 @@ ghost use Rattle.std.specs.Prelude.{◌≡◌, [], ◌∷◌, ◌*◌, length, g
 ghost use Rattle.laws.specs.Lists.{collect};
 ghost use Rattle.pcm.specs.Samples.{samples_in, sample_of, low_byte, high_byte};
 
-// The sample of two bytes, the low one first. A function of its own, as the next, so that a wrong one is refused by what it gives.
+// The sample of two bytes, the low one first.
+// Kept: a function of its own, as the next is, so that a wrong one is refused by what it gives, and not for its form.
 #[tactic(auto, using(crate::proofs::Bytes::read_word))]
 fn sample_in(pair: [u8; 2]) -> i16
     ensures { result ≡ sample_of (get_or pair 0 0) (get_or pair 1 0) }

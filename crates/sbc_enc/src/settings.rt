@@ -12,7 +12,7 @@ const LONGEST: usize = 16;
 
 // Word i of the arguments, read into the space: none where there are fewer. One that is no text, or too long, is no setting.
 //
-// Kept: `env::args` would refuse a program's name that is no text, too, and this program takes any name; and it takes memory.
+// Kept: `env::args` takes memory, and would refuse a program's name that is no text, too; this program takes any name.
 fn word_at<'a>(
     rt: &impl Env,
     i: usize,

@@ -9,8 +9,8 @@ use sbc_frame::{BlockCount, Blocks};
 use sbc_quantizer::scale_factor;
 use std::array;
 
-// The greatest absolute values of the subbands, with those of one block more. The closure says what it gives, so that its proof can
-// work out by arithmetic which sample is read.
+// The greatest absolute values of the subbands, with those of one block more.
+// Kept: the block by its number, and a closure that says what it gives, so that a sample of another place is refused by a fact.
 fn raise(top: &[u32; 8], samples: &Blocks, block: usize) -> [u32; 8]
     requires { block < 16 }
     ensures { result ≡ raised top.now (get_or samples.now.rows block []) }

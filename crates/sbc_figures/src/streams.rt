@@ -105,7 +105,7 @@ fn show_distances(
     println!(rt; ", {verdict}")
 }
 
-// Decodes a stream in one call. It is not inlined, so that what stands before the streams is written without the room of its buffers.
+// Decodes a stream in one call. It is not inlined, so that the figures before the streams take no stack for its buffers.
 #[inline(never)]
 fn stream(
     rt: &(impl Files + Print + Eprint),

@@ -22,7 +22,7 @@ fn write_body(accepted: AcceptedSet, body: &mut [u8], coding: &CodedFrame)
     let subbands = usize::from(set.subbands);
     let others = subbands * (usize::from(set.channels()) - 1);
     let factors = coding.factors.rows;
-    // Row by row, so that one in the place of the other is refused by a fact.
+    // Kept: row by row, so that a row in the place of the other is refused by a fact.
     let widths = allocate(set, [factors[0], factors[1]]);
     let quantizations = [
         Quantization {
